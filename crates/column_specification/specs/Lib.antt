@@ -1,0 +1,3 @@
+pub mod TypeNumber
+pub mod Specification
+pub mod Key

@@ -1,0 +1,24 @@
+-- A specification as a number: packed from an id, a type's number and the compressed bit, and taken apart again.
+use Prim.Native.Nat.{ℕ, _+_, _*_, _/_, _%_, _^_}
+use mathlib.Core.Bool.{Bool, cond}
+use lib.Dec.{ltb, eqb}
+use Rattle.column_specification.specs.declared.Packed.{Packed}
+use Rattle.column_specification.specs.declared.Packed.the-variants.{Spec, Refused}
+
+-- 01, "Specifications": id times 16, plus 8 for the compressed bit, plus type
+abbrev pub packed : ℕ → ℕ → Bool → ℕ
+packed id number compressed = id * 16 + cond compressed 8 0 + number
+
+-- 01, "Specifications": ids go to 2^28-1; "Refusal numbers": 19, a column id of 2^28 or more, place 0
+abbrev pub pack : ℕ → ℕ → Bool → Packed
+pack id number compressed = cond (ltb id (2 ^ 28)) (Spec (record { 0 = packed id number compressed })) (Refused 19 0)
+
+-- 01, "Specifications", read backwards: the id, the type's number (the low three bits) and the compressed bit (bit 3)
+abbrev pub idOf : ℕ → ℕ
+idOf spec = spec / 16
+
+abbrev pub typeOf : ℕ → ℕ
+typeOf spec = spec % 8
+
+abbrev pub compressedOf : ℕ → Bool
+compressedOf spec = eqb (spec / 8 % 2) 1

@@ -1,0 +1,8 @@
+pub mod Back
+pub mod Encoded
+pub mod Examples
+pub mod Laws
+pub mod Only
+pub mod Scanning
+pub mod Sound
+pub mod Twos

@@ -1,0 +1,36 @@
+-- What each answer of the code stands for.
+use Prim.Native.Nat.{ℕ}
+use lib.IntN.{ℤ}
+use Rattle.leb128.specs.Got.{Got, got, bad}
+use Rattle.leb128.specs.Answer.{Answer, done, refused}
+use Rattle.leb128.specs.Digits as spec
+use Rattle.leb128.specs.declared.Digits.{Digits}
+use Rattle.leb128.specs.declared.Digits.the-variants as D
+use Rattle.leb128.specs.declared.ParsedU64.{ParsedU64}
+use Rattle.leb128.specs.declared.ParsedU64.the-variants as U
+use Rattle.leb128.specs.declared.ParsedI64.{ParsedI64}
+use Rattle.leb128.specs.declared.ParsedI64.the-variants as I
+use Rattle.leb128.specs.declared.ParsedU32.{ParsedU32}
+use Rattle.leb128.specs.declared.ParsedU32.the-variants as W
+use Rattle.leb128.specs.declared.Written.{Written}
+use Rattle.leb128.specs.declared.Written.the-variants as P
+
+abbrev pub digitsOf : Digits → spec.Digits
+digitsOf (D.Whole low scale prev last count) = spec.whole low scale prev last count
+digitsOf (D.Broken r) = spec.broken r
+
+abbrev pub u64Of : ParsedU64 → Got ℕ
+u64Of (U.Number v next) = got v next
+u64Of (U.Refused r place) = bad r place
+
+abbrev pub i64Of : ParsedI64 → Got ℤ
+i64Of (I.Number x next) = got x next
+i64Of (I.Refused r place) = bad r place
+
+abbrev pub u32Of : ParsedU32 → Got ℕ
+u32Of (W.Number v next) = got v next
+u32Of (W.Refused r place) = bad r place
+
+abbrev pub writtenOf : Written → Answer
+writtenOf (P.Next next) = done next
+writtenOf (P.Refused r place) = refused r place
