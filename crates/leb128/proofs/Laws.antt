@@ -1,7 +1,7 @@
 -- What crates above use of numbers, at a position: every number reads back from its encoding whatever follows (`-back`), every accepted
 -- encoding is the one that is written, of a number within its type (`-only`), and reading advances and stays within (`-next`).
 -- An encoding has 1 to 10 bytes, and putting one where there is room stores it. Assumes nothing.
-use mathlib.Core.Path.{_≡_, refl, sym}
+use mathlib.Core.Path.{_≡_, refl, sym, ap}
 use mathlib.Core.List.{List, [], _∷_, _++_}
 use mathlib.Core.Bool.{Bool, true, false, cond}
 use Prim.Native.Nat.{ℕ, suc, _+_, _*_, _-_, _^_, _≤_, _<_, min}
@@ -15,7 +15,7 @@ use Rattle.leb128.specs.Write.{u64Bytes, i64Bytes, putAt, putOut}
 use Rattle.leb128.specs.Read.{uLarge, uLong, unsigned, sLarge, sLong, signedOf, signed, u64At, i64At}
 use lib.IntN.{ℤ, pos, negsuc}
 use lib.Signed.{mag}
-use Rattle.leb128.proofs.Encoded.{encoded-some, encoded-short, put-yes}
+use Rattle.leb128.proofs.Encoded.{encoded-last, encoded-some, encoded-short, put-yes}
 use Rattle.leb128.proofs.Back.{u-round, s-round}
 use Rattle.leb128.proofs.Only.{u-only, s-only}
 use Rattle.leb128.specs.Answer.{done}
@@ -91,3 +91,7 @@ i64-short (negsuc n) = (encoded-some 64 true n, encoded-short 64 true n)
 
 pub put-room : (out : List ℕ) (at : ℕ) (bs : List ℕ) → at + length bs ≤ length out → (putAt out at bs ≡ done (at + length bs)) × (putOut out at bs ≡ sets out at bs)
 put-room out at bs h = let y = put-yes out at bs (length bs) refl h in (sym (y .0), sym (y .1))
+
+-- a small signed number takes one byte
+pub i64-one : (n : ℕ) → n < 64 → (length (i64Bytes (pos n)) ≡ 1) × (length (i64Bytes (negsuc n)) ≡ 1)
+i64-one n h = (ap length (encoded-last 64 false n h), ap length (encoded-last 64 true n h))

@@ -1,0 +1,16 @@
+pub mod Back
+pub mod Columns
+pub mod Cut
+pub mod Elements
+pub mod Filling
+pub mod Lists
+pub mod Looking
+pub mod Pieces
+pub mod Placing
+pub mod Presence
+pub mod Putting
+pub mod Readable
+pub mod Running
+pub mod Sizes
+pub mod Via
+pub mod Walking

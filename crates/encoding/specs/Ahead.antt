@@ -1,0 +1,104 @@
+-- Looking ahead over a given list for its next stretch: what the private functions of the writers promise one another. No public promise
+-- cites it.
+use Prim.Native.Nat.{ℕ, zero, suc, _+_, _-_, _≤_, _<_}
+use mathlib.Core.Path.{_≡_}
+use mathlib.Core.List.{List, [], _∷_}
+use mathlib.Core.Bool.{Bool, true, false, cond}
+use lib.Dec.{eqb}
+use lib.IntN.{ℤ, pos, negsuc}
+use lib.ListN.{length, getD, drop}
+use lib.Seq.{slice, sets}
+use Rattle.encoding.specs.Element.{Element}
+use Rattle.encoding.specs.Stretches.{Stretch, gap, run, row, joinNone, joinSome, stretches}
+use Rattle.encoding.specs.Writer.{stretchesBytes}
+use Rattle.encoding.specs.Given.{slotList}
+use Rattle.encoding.specs.declared.Piece.{Piece}
+use Rattle.encoding.specs.declared.Piece.the-variants as piece
+
+-- how many zeros presence bytes begin with; is any of them not 0
+unfoldable pub zeros : List ℕ → ℕ
+zeros [] = 0
+zeros (b ∷ p) = cond (eqb b 0) (suc (zeros p)) 0
+
+unfoldable pub anyFlag : List ℕ → Bool
+anyFlag [] = false
+anyFlag (b ∷ p) = cond (eqb b 0) (anyFlag p) true
+
+-- -n
+unfoldable pub minus : ℕ → ℤ
+minus zero = pos 0
+minus (suc n) = negsuc n
+
+-- the stretches from an index on, and their bytes
+unfoldable pub from : {A : Type 0} → (A → A → Bool) → List A → List ℕ → ℕ → List (Stretch A)
+from same v p k = stretches same (drop k (slotList v p))
+
+unfoldable pub bytesFrom : {A : Type 0} → Element A → List A → List ℕ → ℕ → List ℕ
+bytesFrom E v p i = stretchesBytes E (from (E .same) v p i)
+
+-- m equal values in front of stretches; values one by one
+unfoldable pub runs : {A : Type 0} → (A → A → Bool) → ℕ → A → List (Stretch A) → List (Stretch A)
+runs same zero a r = r
+runs same (suc m) a r = runs same m a (joinSome same a r)
+
+unfoldable pub joinAll : {A : Type 0} → (A → A → Bool) → List A → List (Stretch A) → List (Stretch A)
+joinAll same [] r = r
+joinAll same (a ∷ l) r = joinSome same a (joinAll same l r)
+
+-- the first value of the stretches, if they begin with one, is not a; they do not begin with a row; values each unlike the next
+abbrev pub Off : {A : Type 0} → (A → A → Bool) → A → List (Stretch A) → Type 0
+Off same a [] = Unit {0}
+Off same a (gap n ∷ r) = Unit {0}
+Off same a (run n b ∷ r) = same a b ≡ false
+Off same a (row b bs ∷ r) = same a b ≡ false
+
+abbrev pub Closed : {A : Type 0} → List (Stretch A) → Type 0
+Closed [] = Unit {0}
+Closed (gap n ∷ r) = Unit {0}
+Closed (run n b ∷ r) = Unit {0}
+Closed (row b bs ∷ r) = ⊥
+
+abbrev pub Rowing : {A : Type 0} → (A → A → Bool) → A → List A → List (Stretch A) → Type 0
+Rowing same a [] r = Off same a r
+Rowing same a (b ∷ l) r = (same a b ≡ false) × Rowing same b l r
+
+-- a piece as the code has it: where it ends, and which stretch of the values v it is (d stands past their end)
+abbrev pub endOf : Piece → ℕ
+endOf (piece.Gap k) = k
+endOf (piece.Run k) = k
+endOf (piece.Row k) = k
+
+abbrev pub stretchOf : {A : Type 0} → A → List A → ℕ → Piece → Stretch A
+stretchOf d v i (piece.Gap k) = gap (k - i)
+stretchOf d v i (piece.Run k) = run (k - i) (getD v i d)
+stretchOf d v i (piece.Row k) = row (getD v i d) (slice (i + 1) k v)
+
+-- the stretch at i
+pub record PieceAt {A : Type 0} (same : A → A → Bool) (d : A) (v : List A) (p : List ℕ) (i : ℕ) (r : Piece) : Type 0 where
+  pub later : i < endOf r
+  pub within : endOf r ≤ length v
+  pub cuts : from same v p i ≡ stretchOf d v i r ∷ from same v p (endOf r)
+
+-- equal values from i up to k, and no further
+pub record RunTo {A : Type 0} (same : A → A → Bool) (d : A) (v : List A) (p : List ℕ) (i k : ℕ) : Type 0 where
+  pub later : i < k
+  pub within : k ≤ length v
+  pub cuts : from same v p i ≡ runs same (k - i) (getD v i d) (from same v p k)
+  pub off : Off same (getD v i d) (from same v p k)
+
+-- the row so far, from i up to k
+pub record RowTo {A : Type 0} (same : A → A → Bool) (d : A) (v : List A) (p : List ℕ) (i k : ℕ) : Type 0 where
+  pub later : i < k
+  pub within : k ≤ length v
+  pub cuts : from same v p i ≡ joinSome same (getD v i d) (joinAll same (slice (i + 1) k v) (from same v p k))
+  pub apart : Rowing same (getD v i d) (slice (i + 1) k v) (from same v p k)
+
+-- does the value at k stand there twice
+abbrev pub Paired : {A : Type 0} → (A → A → Bool) → A → List A → List ℕ → ℕ → Bool → Type 0
+Paired same d v p k true = Closed (from same v p k)
+Paired same d v p k false = Off same (getD v k d) (from same v p (k + 1))
+
+-- bytes w put at a position, and the position behind them
+pub record PutAt (out out′ : List ℕ) (at next : ℕ) (w : List ℕ) : Type 0 where
+  pub after : next ≡ at + length w
+  pub bytes : out′ ≡ sets out at w

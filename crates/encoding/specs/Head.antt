@@ -1,0 +1,36 @@
+-- 01, "Columns": how a run begins, the same for every element. "A positive signed count, then one value: that value so often. A negative
+-- count: so many values follow singly. Count 0, then an unsigned count: so many absent readings."
+use Prim.Native.Nat.{ℕ, suc, _+_}
+use mathlib.Core.List.{List}
+use mathlib.Core.Bool.{Bool, cond}
+use lib.Dec.{leb, eqb}
+use lib.IntN.{ℤ, pos, negsuc}
+use Rattle.leb128.specs.Got.{Got, got, bad}
+use Rattle.leb128.specs.Read.{u64At, i64At}
+use Rattle.encoding.specs.Limit.{limit}
+
+-- so many times the value at a position; so many values singly from a position on; so many absent readings, with the position behind
+-- them; or a refusal's number and place
+pub data Head : Type 0 where
+  again : ℕ → ℕ → Head
+  singly : ℕ → ℕ → Head
+  gone : ℕ → ℕ → Head
+  amiss : ℕ → ℕ → Head
+
+-- "A count is judged for 5 when read, before its values": had readings came before, c more are announced by the number at a place
+abbrev pub judged : ℕ → ℕ → ℕ → Head → Head
+judged had c place h = cond (leb (had + c) limit) h (amiss 5 place)
+
+-- the second number of an absent run stands at q
+unfoldable pub goneHead : ℕ → ℕ → Got ℕ → Head
+goneHead had q (got c next) = judged had c q (gone c next)
+goneHead had q (bad number place) = amiss number place
+
+unfoldable pub begun : List ℕ → ℕ → ℕ → Got ℤ → Head
+begun s at had (got (pos c) q) = cond (eqb c 0) (goneHead had q (u64At s q)) (judged had c at (again c q))
+begun s at had (got (negsuc c) q) = judged had (suc c) at (singly (suc c) q)
+begun s at had (bad number place) = amiss number place
+
+-- how the run at a position begins, before which there are `had` readings
+unfoldable pub headAt : List ℕ → ℕ → ℕ → Head
+headAt s at had = begun s at had (i64At s at)

@@ -1,0 +1,12 @@
+pub mod Ahead
+pub mod Answers
+pub mod Column
+pub mod Element
+pub mod Given
+pub mod Head
+pub mod Limit
+pub mod Longest
+pub mod Slots
+pub mod Stretches
+pub mod Walk
+pub mod Writer

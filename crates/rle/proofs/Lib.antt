@@ -1,0 +1,4 @@
+pub mod Back
+pub mod Examples
+pub mod WordLaws
+pub mod Words
