@@ -1,0 +1,18 @@
+//! RLE columns: the crate's encoder and decoder; the numbers inside by the crate's strict reader.
+
+use crate::columnar::encoding::{RleDecoder, RleEncoder};
+use crate::{readings, Refusal};
+
+pub fn encode(list: &[Option<u64>]) -> Vec<u8> {
+    let mut encoder = RleEncoder::new(Vec::new());
+    for reading in list {
+        encoder.append(*reading);
+    }
+    let (bytes, written) = encoder.finish();
+    assert_eq!(written, bytes.len());
+    bytes
+}
+
+pub fn decode(column: &[u8], most: usize) -> Result<Vec<Option<u64>>, Refusal> {
+    readings(RleDecoder::<u64>::from(column), most)
+}
