@@ -1,0 +1,6 @@
+pub mod Back
+pub mod Counting
+pub mod Decoding
+pub mod Examples
+pub mod Turning
+pub mod Writing
