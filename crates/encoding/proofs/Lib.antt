@@ -14,3 +14,4 @@ pub mod Running
 pub mod Sizes
 pub mod Via
 pub mod Walking
+pub mod Within

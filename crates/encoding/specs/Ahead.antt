@@ -98,6 +98,10 @@ abbrev pub Paired : {A : Type 0} → (A → A → Bool) → A → List A → Lis
 Paired same d v p k true = Closed (from same v p k)
 Paired same d v p k false = Off same (getD v k d) (from same v p (k + 1))
 
+-- every reading from i up to k is present
+abbrev pub AllPresent : List ℕ → ℕ → ℕ → Type 0
+AllPresent p i k = (j : ℕ) → i ≤ j → j < k → getD p j 0 ≡ 0 → ⊥
+
 -- bytes w put at a position, and the position behind them
 pub record PutAt (out out′ : List ℕ) (at next : ℕ) (w : List ℕ) : Type 0 where
   pub after : next ≡ at + length w

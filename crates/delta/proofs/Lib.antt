@@ -1,0 +1,11 @@
+pub mod Back
+pub mod Deltas
+pub mod DifferenceLaws
+pub mod Differing
+pub mod Examples
+pub mod Held
+pub mod Kept
+pub mod Passing
+pub mod Summing
+pub mod Taking
+pub mod Writing
