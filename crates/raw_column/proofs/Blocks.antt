@@ -15,6 +15,7 @@ use Rattle.raw_column.specs.Columns.{cut, joined, tableBytes, blockBytes
 use Rattle.raw_column.specs.Part.{startOf, noPart, rowPart, partIn, partAt, bytesOf}
 use Rattle.raw_column.specs.Frame.{shut, room, headOf, tailOf, framedIn, framed, frameOut}
 use Rattle.raw_column.proofs.Cutting.{cut-count, cut-lens, cut-at, cut-joined, joined-cut, joined-length, set-lens, set-joined}
+use Rattle.raw_column.proofs.Framing.{framed-10, framed-room}
 use Rattle.raw_column.proofs.Tables.{Below, Proper, below-set, table-back, table-fills, short-proper, table-only}
 
 -- the columns of a block, read by its own table; none where that is refused
@@ -93,7 +94,7 @@ accepted-written s specs lens next bytes e =
 -- ---- one column set
 
 module _ (s specs lens : List ℕ) (next : ℕ) (e : parse s ≡ tab specs lens next) (position : ℕ) (column : List ℕ) where
-  pub set-column-lens : map length (set (cut lens (drop next s)) position column) ≡ set lens position (length column)
+  set-column-lens : map length (set (cut lens (drop next s)) position column) ≡ set lens position (length column)
   set-column-lens =
       set-lens (cut lens (drop next s)) position column
       ∙ ap (λ (l : List ℕ). set l position (length column))
@@ -222,6 +223,21 @@ module _ (s specs lens : List ℕ) (next : ℕ) (e : parse s ≡ tab specs lens 
       ∙ ap (λ (l : List ℕ). take (startOf lens next position - next) (drop next s) ++ (column ++ l))
       (drop-drop (k + getD lens position 0) next s ∙ ap (λ (n : ℕ). drop n s) b))
       ∙ sym (append-assoc (tableBytes specs (set lens position (length column))) (take (startOf lens next position - next) (drop next s)) (column ++ tailOf s lens next position))
+
+  new-length : length (newBlock s specs lens next position column)
+      ≡ length (headOf s specs lens next position (length column)) + (length column + length (tailOf s lens next position))
+  new-length =
+      let H = headOf s specs lens next position (length column) in
+      let T = tailOf s lens next position in
+      ap length new-block ∙ length-append H (column ++ T) ∙ ap (λ (n : ℕ). length H + n) (length-append column T)
+
+  -- a frame is given exactly where the new block fits
+  pub frame-given : (out : ℕ) → length (newBlock s specs lens next position column) ≤ out
+      → framed s position (length column) out ≡ room (headOf s specs lens next position (length column)) (tailOf s lens next position)
+  frame-given out r = framed-room s position (length column) out specs lens next e h (omega (arith, new-length))
+
+  pub frame-refused : (out : ℕ) → out < length (newBlock s specs lens next position column) → framed s position (length column) out ≡ shut 10 0
+  frame-refused out r = framed-10 s position (length column) out specs lens next e h (omega (arith, new-length))
 
 module _ (s specs lens : List ℕ) (next position size out : ℕ) (head tail : List ℕ) (e : parse s ≡ tab specs lens next) (f : framed s position size out ≡ room head tail)
     (column : List ℕ) (l : length column ≡ size) where

@@ -447,13 +447,20 @@ open-bad-case (faulty number place) o e h = sym (ap (λ (x : Opened). faulty (x 
 pub open-bad : (s : List ℕ) {o : Opened} → o ≡ opened (parse s) → (o .number ≡ 0 → ⊥) → parse s ≡ faulty (o .number) (o .place)
 open-bad s {o} e h = open-bad-case (parse s) o e h
 
+-- its rows
+abbrev pub specsOf : Opened → List ℕ
+specsOf o = take (o .table .rows) (o .table .specs)
+
+abbrev pub lensOf : Opened → List ℕ
+lensOf o = take (o .table .rows) (o .table .lens)
+
 pub record Open (s : List ℕ) (o : Opened) : Type 0 where
-  pub is : parse s ≡ tab (take (o .table .rows) (o .table .specs)) (take (o .table .rows) (o .table .lens)) (o .start)
+  pub is : parse s ≡ tab (specsOf o) (lensOf o) (o .start)
   pub small : o .table .rows ≤ 64
   pub specs-long : length (o .table .specs) ≡ 64
   pub lens-long : length (o .table .lens) ≡ 64
-  pub fills : o .start + sum (take (o .table .rows) (o .table .lens)) ≡ length s
-  pub starts-are : (i : ℕ) → i < o .table .rows → getD (o .table .starts) i 0 ≡ sum (take i (take (o .table .rows) (o .table .lens)))
+  pub fills : o .start + sum (lensOf o) ≡ length s
+  pub starts-are : (i : ℕ) → i < o .table .rows → getD (o .table .starts) i 0 ≡ sum (take i (lensOf o))
 
 open-case : (s : List ℕ) (t : Tab) (o : Opened) → parse s ≡ t → ParseOk (length s) t → o ≡ opened t → o .number ≡ 0 → Open s o
 open-case s (tab specs lens next) o p h e z =
@@ -462,8 +469,8 @@ open-case s (tab specs lens next) o p h e z =
     let b : o .table .lens ≡ pad lens = ap (λ (x : Opened). x .table .lens) e in
     let t : o .table .starts ≡ pad (startsFrom 0 lens) = ap (λ (x : Opened). x .table .starts) e in
     let q : o .start ≡ next = ap (λ (x : Opened). x .start) e in
-    let a′ : take (o .table .rows) (o .table .specs) ≡ specs = rw (n, a) (take-pad (length specs) specs refl) in
-    let b′ : take (o .table .rows) (o .table .lens) ≡ lens = rw (n, b) (take-pad (length specs) lens (h .1)) in
+    let a′ : specsOf o ≡ specs = rw (n, a) (take-pad (length specs) specs refl) in
+    let b′ : lensOf o ≡ lens = rw (n, b) (take-pad (length specs) lens (h .1)) in
     record {
       is = rw (a′, b′, q) p;
       small = omega (arith, h .0);
@@ -481,18 +488,18 @@ pub open-good : (s : List ℕ) {o : Opened} → o ≡ opened (parse s) → o .nu
 open-good s {o} e z = open-case s (parse s) o refl (parse-ok s) e z
 
 module _ {s : List ℕ} {o : Opened} (g : Open s o) where
-  pub rows-long : length (take (o .table .rows) (o .table .specs)) ≡ o .table .rows
+  pub rows-long : length (specsOf o) ≡ o .table .rows
   rows-long = length-take-le (o .table .rows) (o .table .specs) (omega (arith, g .small, g .specs-long))
 
-  pub lens-many : length (take (o .table .rows) (o .table .lens)) ≡ o .table .rows
+  pub lens-many : length (lensOf o) ≡ o .table .rows
   lens-many = length-take-le (o .table .rows) (o .table .lens) (omega (arith, g .small, g .lens-long))
 
   module _ {i : ℕ} (h : i < o .table .rows) where
-    pub len-at : getD (take (o .table .rows) (o .table .lens)) i 0 ≡ getD (o .table .lens) i 0
+    pub len-at : getD (lensOf o) i 0 ≡ getD (o .table .lens) i 0
     len-at = getD-take (o .table .rows) (o .table .lens) i 0 h
 
     -- a column lies within its block
     pub column-in : o .start + getD (o .table .starts) i 0 + getD (o .table .lens) i 0 ≤ length s
     column-in =
-        let t = sum-to (take (o .table .rows) (o .table .lens)) i (omega (arith, lens-many)) in
+        let t = sum-to (lensOf o) i (omega (arith, lens-many)) in
         omega (arith, t, g .starts-are i h, g .fills, len-at)

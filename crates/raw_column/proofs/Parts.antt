@@ -11,7 +11,7 @@ use Rattle.raw_column.specs.Table.{Tab, tab, faulty, sum, parse}
 use Rattle.raw_column.specs.Part.{startOf, noPart, rowPart, partIn, rowOf, specPartIn, partAt, partFor}
 use Rattle.raw_column.specs.declared.Part.{Part}
 use Rattle.raw_column.specs.declared.Opened.{Opened}
-use Rattle.raw_column.proofs.Opening.{cond-by, next-of, none-left, ParseOk, parse-ok, sum-to, Open, rows-long, lens-many}
+use Rattle.raw_column.proofs.Opening.{cond-by, next-of, none-left, ParseOk, parse-ok, sum-to, specsOf, lensOf, Open, rows-long, lens-many}
 
 -- ---- a part lies within its block, whatever the bytes
 abbrev Within : ℕ → Part → Type 0
@@ -48,11 +48,8 @@ spec-in s spec p e = subst (Within (length s)) (sym e) (spec-within s spec)
 
 -- ---- row_part, of a table that was read
 module _ {s : List ℕ} {o : Opened} (g : Open s o) {i : ℕ} (h : i < o .table .rows) where
-  abbrev lens : List ℕ
-  lens = take (o .table .rows) (o .table .lens)
-
-  pub row-ready : length s < 2 ^ 64 → (i < o .table .rows) × (o .table .rows ≤ 64) × (startOf lens (o .start) i < 2 ^ 64) × (getD (o .table .starts) i 0 ≡ sum (take i lens))
-  row-ready w = (h, g .small, omega (arith, sum-to lens i (omega (arith, lens-many g)), g .fills), g .starts-are i h)
+  pub row-ready : length s < 2 ^ 64 → (i < o .table .rows) × (o .table .rows ≤ 64) × (startOf (lensOf o) (o .start) i < 2 ^ 64) × (getD (o .table .starts) i 0 ≡ sum (take i (lensOf o)))
+  row-ready w = (h, g .small, omega (arith, sum-to (lensOf o) i (omega (arith, lens-many g)), g .fills), g .starts-are i h)
 
 -- ---- locate
 module _ (s : List ℕ) (position : ℕ) where
@@ -64,14 +61,14 @@ module _ (s : List ℕ) (position : ℕ) where
     pub part-16 : o .table .rows ≤ position → noPart 16 0 ≡ partAt s position
     unfolding partAt
     part-16 h =
-        let b : length (take (o .table .rows) (o .table .specs)) ≤ position = omega (arith, rows-long g) in
-        rw (g .is, le-ltb position (length (take (o .table .rows) (o .table .specs))) b)
+        let b : length (specsOf o) ≤ position = omega (arith, rows-long g) in
+        rw (g .is, le-ltb position (length (specsOf o)) b)
 
-    pub part-at : position < o .table .rows → rowPart (take (o .table .rows) (o .table .lens)) (o .start) position ≡ partAt s position
+    pub part-at : position < o .table .rows → rowPart (lensOf o) (o .start) position ≡ partAt s position
     unfolding partAt
     part-at h =
-        let b : position < length (take (o .table .rows) (o .table .specs)) = omega (arith, rows-long g) in
-        rw (g .is, lt-ltb position (length (take (o .table .rows) (o .table .specs))) b)
+        let b : position < length (specsOf o) = omega (arith, rows-long g) in
+        rw (g .is, lt-ltb position (length (specsOf o)) b)
 
 -- ---- locate_spec
 module _ (s : List ℕ) (spec : ℕ) where
@@ -79,18 +76,18 @@ module _ (s : List ℕ) (spec : ℕ) where
   unfolding partFor
   spec-bad e = rw e
 
-  module _ {o : Opened} (g : Open s o) {i : ℕ} (e : i ≡ rowOf spec (take (o .table .rows) (o .table .specs))) where
+  module _ {o : Opened} (g : Open s o) {i : ℕ} (e : i ≡ rowOf spec (specsOf o)) where
     pub spec-none : o .table .rows ≤ i → noPart 0 0 ≡ partFor s spec
     unfolding partFor
     spec-none h =
-        let b : length (take (o .table .rows) (o .table .specs)) ≤ i = omega (arith, rows-long g) in
-        rw (g .is, ← e, le-ltb i (length (take (o .table .rows) (o .table .specs))) b)
+        let b : length (specsOf o) ≤ i = omega (arith, rows-long g) in
+        rw (g .is, ← e, le-ltb i (length (specsOf o)) b)
 
-    pub spec-at : i < o .table .rows → rowPart (take (o .table .rows) (o .table .lens)) (o .start) i ≡ partFor s spec
+    pub spec-at : i < o .table .rows → rowPart (lensOf o) (o .start) i ≡ partFor s spec
     unfolding partFor
     spec-at h =
-        let b : i < length (take (o .table .rows) (o .table .specs)) = omega (arith, rows-long g) in
-        rw (g .is, ← e, lt-ltb i (length (take (o .table .rows) (o .table .specs))) b)
+        let b : i < length (specsOf o) = omega (arith, rows-long g) in
+        rw (g .is, ← e, lt-ltb i (length (specsOf o)) b)
 
 -- ---- row_of: the search for a row
 module _ (spec : ℕ) (xs : List ℕ) (n i : ℕ) (h : n ≤ length xs) (t : i < n) where

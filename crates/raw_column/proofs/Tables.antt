@@ -54,7 +54,7 @@ u32-there pre rest v h =
     let l : v ≤ 4294967295 = omega arith in
     rw (u64-there pre rest v w, le-leb v 4294967295 l)
 
-pub rows-back : (specs lens pre rest : List ℕ) → length lens ≡ length specs → Below (2 ^ 32) specs → Below (2 ^ 64) lens
+rows-back : (specs lens pre rest : List ℕ) → length lens ≡ length specs → Below (2 ^ 32) specs → Below (2 ^ 64) lens
     → rowsAt (length specs) (pre ++ (rowsBytes specs lens ++ rest)) (length pre) ≡ tab specs lens (length (pre ++ rowsBytes specs lens))
 unfolding rowsAt rowsBytes
 rows-back [] [] pre rest e a b = ap (λ (l : List ℕ). tab [] [] (length l)) (sym (append-nil pre))
@@ -97,7 +97,7 @@ table-back specs lens d p e =
 -- ---- what is accepted is what is written
 
 -- how a table came to be accepted: a count and its rows, which passed the checks
-pub record Accepted (s specs lens : List ℕ) (next : ℕ) : Type 0 where
+record Accepted (s specs lens : List ℕ) (next : ℕ) : Type 0 where
   pub count : ℕ
   pub first : ℕ
   pub counted : u64At s 0 ≡ got count first
@@ -137,7 +137,7 @@ module _ (s specs lens : List ℕ) (next : ℕ) where
       go true e = let z : _≡_ {A = ℕ} 0 1 = cc in absurd (omega arith)
       go false e = accepted-rows n q c (rowsAt n s q) refl e
 
-  pub accepted : parse s ≡ tab specs lens next → Accepted s specs lens next
+  accepted : parse s ≡ tab specs lens next → Accepted s specs lens next
   unfolding parse
   accepted e = accepted-count (u64At s 0) refl e
 

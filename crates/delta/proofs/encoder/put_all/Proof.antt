@@ -63,12 +63,14 @@ loop-again c =
     let s = c .before .before .before .before .before .before .before .before .before .before .before in
     let v = s .args .values .now in
     let p = s .args .present .now in
-    let h = c .before .before .before .before .before .before .before .before .loop .inv in
-    let q = c .before .before .before .before .before .before .piece-at .ensures in
+    let o = c .before .before .before .before .before .before .before .before .loop in
+    let h = o .inv in
+    let x = c .before .before .before .before .before .before .piece-at in
+    let q = x .ensures in
     let w = piece-within v p (s .pre .0 .0 .even) _ _ q in
     let z = c .piece-end .ensures in
     let u = c .before .before .before .before .put-piece .ensures in
-    let b = stretchBytes i64E (stretchOf (pos 0) (diffs v p) (c .before .before .before .before .before .before .before .before .loop .i) (c .before .before .before .before .before .before .piece-at .result)) in
+    let b = stretchBytes i64E (stretchOf (pos 0) (diffs v p) (o .i) (x .result)) in
     let e = bytes-cut i64E (pos 0) _ _ _ _ q ∙ ap (λ (k : ℕ). b ++ bytesFrom i64E (diffs v p) p k) (sym z) in
     let l = bytes-length i64E (pos 0) _ _ _ _ q ∙ ap (λ (k : ℕ). length b + length (bytesFrom i64E (diffs v p) p k)) (sym z) in (
       omega arith,

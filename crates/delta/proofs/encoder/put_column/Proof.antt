@@ -13,7 +13,8 @@ any-present-requires c κs = search needs
 put-all-requires : tie.Need-put-all-requires
 put-all-requires c κs =
     let s = c .before .before .before .before .before in
-    let e = delta-all (s .args .values .now) (s .args .present .now) (s .pre .0 .0) (sym (c .before .before .any-present .ensures) ∙ c .before .if1 .taken) in
+    let t = sym (c .before .before .any-present .ensures) ∙ c .before .if1 .taken in
+    let e = delta-all (s .args .values .now) (s .args .present .now) (s .pre .0 .0) t in
     (s .pre .0, omega (arith, ap length e, s .pre .1))
 
 same-length : tie.Need-same-length
@@ -22,13 +23,15 @@ same-length c = search needs
 returns : tie.Need-returns
 returns c =
     let s = c .before .before .before .before .before .before .before .before in
-    let e = delta-all (s .args .values .now) (s .args .present .now) (s .pre .0 .0) (sym (c .before .before .before .before .before .any-present .ensures) ∙ c .before .before .before .before .if1 .taken) in
+    let t = sym (c .before .before .before .before .before .any-present .ensures) ∙ c .before .before .before .before .if1 .taken in
+    let e = delta-all (s .args .values .now) (s .args .present .now) (s .pre .0 .0) t in
     rw e (c .before .before .put-all .ensures)
 
 returns-2 : tie.Need-returns-2
 returns-2 c =
     let s = c .before .before .before .before in
-    let e = delta-none (s .args .values .now) (s .args .present .now) (s .pre .0 .0) (sym (c .before .any-present .ensures) ∙ c .if1 .left) in
+    let t = sym (c .before .any-present .ensures) ∙ c .if1 .left in
+    let e = delta-none (s .args .values .now) (s .args .present .now) (s .pre .0 .0) t in
     rw e
 
 pub put-column-spec : {M : Type 1} → statement M

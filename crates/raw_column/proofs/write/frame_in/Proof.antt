@@ -134,9 +134,10 @@ returns-3 c =
     let size = a .args .size in
     let b = before (a .args .block .now) (a .args .table) (a .args .next) (a .args .position) size (c .before .before .before .before .before .before .before .before .before .before .before .before .before .before .before .before .row-part .result) in
     let z = behind (a .args .block .now) (c .before .before .before .before .before .before .before .before .before .before .before .before .before .before .before .before .row-part .result) in
-    let r = frame-room (a .pre) f size (length (a .args .out .now)) (omega (arith, c .before .before .before .before .before .before .before .before .before .if1 .left, c .before .before .before .before .before .before .before .before .if2 .left)) in
-    (frame-eq _ _ size b z (c .before .before .put-around .ensures .0) e ∙ ap (frameOf size) (sym r),
-     c .before .before .put-around .ensures .1 ∙ ap (λ (y : Framed). frameOut size y (a .args .out .now)) (sym r))
+    let r = frame-room (a .pre) f size (length (a .args .out .now)) (omega (arith, c .before .before .before .before .before .before .before .before .before .if1 .left, c .before .before .before .before .before .before .before .before .if2 .left)) in (
+      frame-eq _ _ size b z (c .before .before .put-around .ensures .0) e ∙ ap (frameOf size) (sym r),
+      c .before .before .put-around .ensures .1 ∙ ap (λ (y : Framed). frameOut size y (a .args .out .now)) (sym r),
+    )
 
 pub frame-in-spec : {M : Type 1} → statement M
 frame-in-spec =

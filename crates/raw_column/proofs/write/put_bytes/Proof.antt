@@ -1,5 +1,4 @@
--- `raw_column::write::put_bytes` meets its contract: what the bytes from i on owe at their position is what all owe at the start.
--- Assumes nothing.
+-- `raw_column::write::put_bytes` meets its contract: the bytes from i on owe at their position what all owe at the start. Assumes nothing.
 use Prim.Native.Nat.{_+_, _-_, _≤_}
 use mathlib.Core.Path.{_≡_, refl, sym, _∙_}
 use native.Mathlib.Omega.{arith}

@@ -1,5 +1,4 @@
--- `raw_column::write::put_rows` meets its contract: what the rows from i on owe at the position is what all owe at the start.
--- Assumes nothing.
+-- `raw_column::write::put_rows` meets its contract: the rows from i on owe at the position what all owe at the start. Assumes nothing.
 use Prim.Native.Nat.{_+_, _-_, _≤_}
 use mathlib.Core.Path.{_≡_, refl, sym, _∙_, ap}
 use native.Mathlib.Omega.{arith}

@@ -1,0 +1,204 @@
+-- DEMAND 3, from the definitions alone and once for every kind of column. "An edit of one column depends on nothing inside the others, which
+-- keep their bytes; an accepted edit writes the encoding of the old list with the range replaced." Assumes nothing.
+use Prim.Native.Nat.{ℕ, _+_, _-_, _^_, _≤_, _<_, min, max}
+use mathlib.Core.Path.{_≡_, refl, sym, ap, _∙_, subst}
+use mathlib.Core.List.{List, [], _++_, map}
+use mathlib.Core.Option.{Option, none, some}
+use mathlib.Core.Bool.{Bool, true, false, cond, _&&_}
+use native.Mathlib.Omega.{arith}
+use lib.Seq.{drop-drop, length-take-le}
+use lib.ListN.{length, getD, set, take, drop, length-append, length-take, length-drop, take-append-drop}
+use lib.Dec.{ltb, leb}
+use borrow.Author.Tests.{ltb-true, leb-true}
+use Rattle.leb128.specs.Answer.{Answer, done, refused}
+use Rattle.column_specification.specs.Specification.{typeOf}
+use Rattle.encoding.specs.Limit.{limit}
+use Rattle.encoding.specs.Walk.{Ending, fault, outcomeOf, outcome}
+use Rattle.encoding.proofs.Lists.{cond-by}
+use Rattle.raw_column.specs.Table.{Tab, tab, faulty, sum, parse}
+use Rattle.raw_column.specs.Columns.{cut, tableBytes, blockBytes, newBlock}
+use Rattle.raw_column.specs.Part.{startOf}
+use Rattle.raw_column.specs.Frame.{headOf, tailOf}
+use Rattle.raw_column.proofs.Blocks.{columnsOf, columns-are, Agree, columns-agree, new-block, accepted-written}
+use Rattle.raw_column.proofs.Cutting.{cut-at}
+use Rattle.raw_column.proofs.Tables.{Below, table-fills, table-back}
+use Rattle.slots.specs.Splice.{spliced}
+use Rattle.splice.specs.Kind.{Kind}
+use Rattle.splice.specs.Edit.{Edited, stop, late, accepted, endIn, finished, editList, readBy, editColumn, editRow, editIn, edited}
+
+-- the column at a position, as an edit takes it
+abbrev columnAt : List ℕ → List ℕ → ℕ → ℕ → List ℕ
+columnAt s lens next position = take (getD lens position 0) (drop (startOf lens next position) s)
+
+-- two edits come to the same: the same refusal, the same list in the slots; and where they are accepted, the same new table and the same new
+-- column in both new blocks, which is what `writes` gives for that list, and in each of them every other column as it was in its own block
+pub data Alike {A : Type 0} (K : Kind A) (s s′ specs lens : List ℕ) (position : ℕ) : Edited A → Edited A → Type 0 where
+  both-stop : (number place : ℕ) → Alike K s s′ specs lens position (stop number place) (stop number place)
+  both-late : (number place old : ℕ) (xs : List A) → Alike K s s′ specs lens position (late number place old xs) (late number place old xs)
+  both-accepted : (old : ℕ) (xs : List A) (block block′ : List ℕ) → Agree s s′ specs lens position (K .writes xs) block block′
+      → Alike K s s′ specs lens position (accepted old xs block) (accepted old xs block′)
+
+alike-if : {A : Type 0} {K : Kind A} {s s′ specs lens : List ℕ} {position : ℕ} (t : Bool) {x x′ y y′ : Edited A}
+    → (t ≡ true → Alike K s s′ specs lens position x x′) → (t ≡ false → Alike K s s′ specs lens position y y′)
+    → Alike K s s′ specs lens position (cond t x y) (cond t x′ y′)
+alike-if true f g = f refl
+alike-if false f g = g refl
+
+-- two blocks of one sound table that agree on the column at a position
+module _ {A : Type 0} (K : Kind A) (s s′ specs lens : List ℕ) (next position : ℕ) (short : length s < 2 ^ 64)
+    (sound : parse s ≡ tab specs lens next) (sound′ : parse s′ ≡ tab specs lens next) (row : position < length specs)
+    (same : columnAt s lens next position ≡ columnAt s′ lens next position) where
+  one-length : length s ≡ length s′
+  one-length = sym (table-fills s specs lens next sound .whole) ∙ table-fills s′ specs lens next sound′ .whole
+
+  is-column : (t : List ℕ) → parse t ≡ tab specs lens next → getD (columnsOf t) position [] ≡ columnAt t lens next position
+  is-column t e =
+      ap (λ (x : List (List ℕ)). getD x position []) (columns-are t specs lens next e)
+      ∙ cut-at lens (drop next t) position
+      ∙ ap (take (getD lens position 0)) (drop-drop (sum (take position lens)) next t)
+
+  same-columns : getD (columnsOf s) position [] ≡ getD (columnsOf s′) position []
+  same-columns = is-column s sound ∙ same ∙ sym (is-column s′ sound′)
+
+  -- the new blocks are of one length, whatever the new column
+  block-size : (t : List ℕ) → parse t ≡ tab specs lens next → (column : List ℕ)
+      → length (newBlock t specs lens next position column)
+      ≡ length (tableBytes specs (set lens position (length column))) + min (startOf lens next position - next) (length t - next)
+      + (length column + (length t - (startOf lens next position + getD lens position 0)))
+  block-size t e column =
+      let T = tableBytes specs (set lens position (length column)) in
+      let h = take (startOf lens next position - next) (drop next t) in
+      let z = tailOf t lens next position in
+      ap length (new-block t specs lens next e position row column)
+      ∙ omega (
+        arith,
+        length-append (T ++ h) (column ++ z),
+        length-append T h,
+        length-append column z,
+        length-take (startOf lens next position - next) (drop next t),
+        length-drop next t,
+        length-drop (startOf lens next position + getD lens position 0) t,
+      )
+
+  same-size : (column : List ℕ) → length (newBlock s specs lens next position column) ≡ length (newBlock s′ specs lens next position column)
+  same-size column = block-size s sound column ∙ rw (one-length) refl ∙ sym (block-size s′ sound′ column)
+
+  column-within : (column : List ℕ) → length column ≤ length (newBlock s specs lens next position column)
+  column-within column = omega (arith, block-size s sound column)
+
+  module _ (room : ℕ) (fits : room < 2 ^ 64) where
+    finished-alike : (old : ℕ) (xs : List A) (w : Option ℕ)
+        → Alike K s s′ specs lens position (finished K old xs room (newBlock s specs lens next position) w) (finished K old xs room (newBlock s′ specs lens next position) w)
+    finished-alike old xs (some i) = both-late 7 i old xs
+    finished-alike old xs none =
+        let c = K .writes xs in
+        rw (← same-size c)
+        (alike-if (leb (length (newBlock s specs lens next position c)) room)
+        (λ e. both-accepted old xs _ _ (columns-agree (λ x. c) s s′ specs lens next position short sound sound′ row same-columns
+        (omega (arith, leb-true (length (newBlock s specs lens next position c)) room e, column-within c))))
+        (λ e. both-late 10 0 old xs))
+
+    read-alike : (o : Answer) (old : List A) (start end : ℕ) (new : List A) (slots : ℕ)
+        → Alike K s s′ specs lens position
+        (readBy K o old (λ old. editList K old start end new slots room (newBlock s specs lens next position)))
+        (readBy K o old (λ old. editList K old start end new slots room (newBlock s′ specs lens next position)))
+    read-alike (refused number place) old start end new slots = both-stop number place
+    read-alike (done n) old start end new slots =
+        let xs = spliced old start (endIn end (length old)) new in
+        alike-if (ltb (length old) start) (λ e. both-stop 18 0)
+        (λ e. alike-if (ltb limit (length xs)) (λ e. both-stop 5 0)
+        (λ e. alike-if (ltb slots (max (length old) (length xs))) (λ e. both-stop 9 0)
+        (λ e. finished-alike (length old) xs (K .wide xs))))
+
+    column-alike : (column : List ℕ) (start end : ℕ) (given : Answer) (new : List A) (slots : ℕ)
+        → Alike K s s′ specs lens position
+        (editColumn K column start end given new slots room (newBlock s specs lens next position))
+        (editColumn K column start end given new slots room (newBlock s′ specs lens next position))
+    column-alike column start end (refused number place) new slots = both-stop number place
+    column-alike column start end (done g) new slots = read-alike (outcome (K .reads column)) (K .reads column .readings) start end new slots
+
+    -- THE SAME EDIT OF BOTH comes to the same
+    pub isolated : (start end : ℕ) (given : Answer) (new : List A) (slots : ℕ)
+        → Alike K s s′ specs lens position (edited K s position start end given new slots room) (edited K s′ position start end given new slots room)
+    unfolding edited
+    isolated start end given new slots =
+        rw (sound, sound′)
+        (alike-if (ltb position (length specs))
+        (λ e. rw same
+        (alike-if (leb (K .low) (typeOf (getD specs position 0)) && leb (typeOf (getD specs position 0)) (K .high))
+        (λ e. alike-if (ltb end start) (λ e. both-stop 18 0) (λ e. column-alike (columnAt s′ lens next position) start end given new slots))
+        (λ e. both-stop 17 0)))
+        (λ e. both-stop 16 0))
+
+-- ---- blocks of one length that differ only inside other columns have one table
+
+pub one-table : (s s′ specs lens : List ℕ) (next : ℕ) → Below 256 s → parse s ≡ tab specs lens next → length s′ ≡ length s → take next s′ ≡ take next s
+    → parse s′ ≡ tab specs lens next
+one-table s s′ specs lens next bytes e l t =
+    let o = accepted-written s specs lens next bytes e in
+    let T = tableBytes specs lens in
+    let d : sum lens ≡ length (drop next s′) = omega (arith, o .fills, length-drop next s′) in
+    let n : length T ≡ next = sym (ap length (o .table)) ∙ length-take-le next s (omega (arith, o .fills)) in
+    ap parse (sym (take-append-drop next s′) ∙ ap (λ (x : List ℕ). x ++ drop next s′) (t ∙ o .table))
+    ∙ table-back specs lens (drop next s′) (o .proper) d
+    ∙ ap (tab specs lens) n
+
+-- ---- what an accepted edit writes
+
+module _ {A : Type 0} (K : Kind A) (s specs lens : List ℕ) (next position start end : ℕ) (new : List A) where
+  -- the old list, by the definition of reading, with the range replaced; and the column of the new block, by that of writing
+  pub record Right (old : ℕ) (xs : List A) (block : List ℕ) : Type 0 where
+    pub sound : K .reads (columnAt s lens next position) .ending ≡ Ending.sound
+    pub size : old ≡ length (K .reads (columnAt s lens next position) .readings)
+    pub list : xs ≡ spliced (K .reads (columnAt s lens next position) .readings) start (endIn end old) new
+    pub block-is : block ≡ newBlock s specs lens next position (K .writes xs)
+    pub served : position < length specs
+
+  abbrev RightIn : Edited A → Type 0
+  RightIn (stop number place) = Unit {0}
+  RightIn (late number place old xs) = Unit {0}
+  RightIn (accepted old xs block) = Right old xs block
+
+  right-list : (room slots : ℕ) → position < length specs → K .reads (columnAt s lens next position) .ending ≡ Ending.sound
+      → RightIn (editList K (K .reads (columnAt s lens next position) .readings) start end new slots room (newBlock s specs lens next position))
+  right-list room slots row e =
+      let old = K .reads (columnAt s lens next position) .readings in
+      let xs = spliced old start (endIn end (length old)) new in
+      cond-by RightIn (ltb (length old) start) (λ h. tt)
+      (λ h. cond-by RightIn (ltb limit (length xs)) (λ h. tt)
+      (λ h. cond-by RightIn (ltb slots (max (length old) (length xs))) (λ h. tt)
+      (λ h. go (K .wide xs))))
+    where
+      go : (w : Option ℕ) → let old = K .reads (columnAt s lens next position) .readings in let xs = spliced old start (endIn end (length old)) new in
+          RightIn (finished K (length old) xs room (newBlock s specs lens next position) w)
+      go (some i) = tt
+      go none =
+          let old = K .reads (columnAt s lens next position) .readings in
+          let xs = spliced old start (endIn end (length old)) new in
+          cond-by RightIn (leb (length (newBlock s specs lens next position (K .writes xs))) room)
+          (λ h. record { sound = e; size = refl; list = refl; block-is = refl; served = row }) (λ h. tt)
+
+  right-column : (room slots : ℕ) (given : Answer) → position < length specs
+      → RightIn (editColumn K (columnAt s lens next position) start end given new slots room (newBlock s specs lens next position))
+  unfolding outcome outcomeOf
+  right-column room slots (refused number place) row = tt
+  right-column room slots (done g) row = go (K .reads (columnAt s lens next position) .ending) refl
+    where
+      go : (x : Ending) → K .reads (columnAt s lens next position) .ending ≡ x
+          → RightIn (readBy K (outcomeOf (length (K .reads (columnAt s lens next position) .readings)) x) (K .reads (columnAt s lens next position) .readings)
+          (λ old. editList K old start end new slots room (newBlock s specs lens next position)))
+      go Ending.sound e = right-list room slots row e
+      go (fault number place) e = tt
+
+  right-in : (room slots : ℕ) (given : Answer) → RightIn (editIn K s position start end given new slots room (tab specs lens next))
+  right-in room slots given =
+      cond-by RightIn (ltb position (length specs))
+      (λ h. cond-by RightIn (leb (K .low) (typeOf (getD specs position 0)) && leb (typeOf (getD specs position 0)) (K .high))
+      (λ h′. cond-by RightIn (ltb end start) (λ h″. tt) (λ h″. right-column room slots given (ltb-true position (length specs) h)))
+      (λ h′. tt)) (λ h. tt)
+
+  pub accepted-right : (room slots : ℕ) (given : Answer) (old : ℕ) (xs : List A) (block : List ℕ) → parse s ≡ tab specs lens next
+      → edited K s position start end given new slots room ≡ accepted old xs block → Right old xs block
+  unfolding edited
+  accepted-right room slots given old xs block e h =
+      subst RightIn (ap (editIn K s position start end given new slots room) (sym e) ∙ h) (right-in room slots given)

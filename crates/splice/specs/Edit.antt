@@ -1,0 +1,97 @@
+-- 01, "Editing", over the kind of column. "Order: table faults; 16; 17; 18 for end below start; 8; column faults; 18 for start beyond the
+-- list; 5 for the result; 9 when slots are fewer than the longer of old and new list; 7; 10."
+use Prim.Native.Nat.{ℕ, _+_, _-_, min, max}
+use mathlib.Core.List.{List, _++_, map}
+use mathlib.Core.Option.{Option, none, some}
+use mathlib.Core.Bool.{Bool, cond, _&&_}
+use lib.Dec.{ltb, leb, eqb}
+use lib.ListN.{length, getD, take, drop}
+use Rattle.leb128.specs.Answer.{Answer, done, refused}
+use Rattle.column_specification.specs.Specification.{typeOf}
+use Rattle.encoding.specs.Limit.{limit}
+use Rattle.encoding.specs.Walk.{Trace, outcome}
+use Rattle.encoding.specs.Given.{badFlag}
+use Rattle.raw_column.specs.Table.{Tab, tab, faulty, parse}
+use Rattle.raw_column.specs.Columns.{newBlock}
+use Rattle.raw_column.specs.Part.{startOf}
+use Rattle.slots.specs.Splice.{spliced, inSlots}
+use Rattle.splice.specs.Kind.{Kind}
+
+-- what an edit comes to: stopped, and nothing is changed; late, with 7 or 10, and the slots hold the new list; accepted, with the new block.
+-- `old` is the old list's length
+pub data Edited (A : Type 0) : Type 0 where
+  stop : ℕ → ℕ → Edited A
+  late : ℕ → ℕ → ℕ → List A → Edited A
+  accepted : ℕ → List A → List ℕ → Edited A
+
+-- "The end counts as the list's length when it is larger, as in the Rust."
+abbrev pub endIn : ℕ → ℕ → ℕ
+endIn end old = min end old
+
+-- refusal 8 of an edit: the lengths of the slots and of the new list first, then the first bad byte of the new readings
+abbrev pub flagsIn : Option ℕ → Answer
+flagsIn none = done 0
+flagsIn (some i) = refused 8 i
+
+unfoldable pub givenOptional : ℕ → ℕ → ℕ → List ℕ → Answer
+givenOptional values flags new newFlags = cond (eqb values flags && eqb new (length newFlags)) (flagsIn (badFlag 0 newFlags)) (refused 8 0)
+
+unfoldable pub givenBoolean : List ℕ → Answer
+givenBoolean new = flagsIn (badFlag 0 new)
+
+module _ {A : Type 0} (K : Kind A) where
+  -- 7, 10, and the new block, of which `block` gives the bytes for a column's
+  abbrev pub finished : ℕ → List A → ℕ → (List ℕ → List ℕ) → Option ℕ → Edited A
+  finished old xs room block (some i) = late 7 i old xs
+  finished old xs room block none =
+      cond (leb (length (block (K .writes xs))) room) (accepted old xs (block (K .writes xs))) (late 10 0 old xs)
+
+  -- 18 for the start, 5 and 9, of a column that reads as `old`
+  abbrev pub editList : List A → ℕ → ℕ → List A → ℕ → ℕ → (List ℕ → List ℕ) → Edited A
+  editList old start end new slots room block =
+      let n = length old in
+      let xs = spliced old start (endIn end n) new in
+      cond (ltb n start) (stop 18 0)
+      (cond (ltb limit (length xs)) (stop 5 0)
+      (cond (ltb slots (max n (length xs))) (stop 9 0)
+      (finished n xs room block (K .wide xs))))
+
+  abbrev pub readBy : Answer → List A → (List A → Edited A) → Edited A
+  readBy (done n) old k = k old
+  readBy (refused number place) old k = stop number place
+
+  -- 8 and column faults
+  abbrev pub editColumn : List ℕ → ℕ → ℕ → Answer → List A → ℕ → ℕ → (List ℕ → List ℕ) → Edited A
+  editColumn column start end (refused number place) new slots room block = stop number place
+  editColumn column start end (done g) new slots room block =
+      readBy (outcome (K .reads column)) (K .reads column .readings) (λ old. editList old start end new slots room block)
+
+  -- 17 and 18 for the end
+  abbrev pub editRow : List ℕ → ℕ → ℕ → ℕ → Answer → List A → ℕ → ℕ → (List ℕ → List ℕ) → Edited A
+  editRow column spec start end given new slots room block =
+      cond (leb (K .low) (typeOf spec) && leb (typeOf spec) (K .high))
+      (cond (ltb end start) (stop 18 0) (editColumn column start end given new slots room block))
+      (stop 17 0)
+
+  -- table faults and 16
+  abbrev pub editIn : List ℕ → ℕ → ℕ → ℕ → Answer → List A → ℕ → ℕ → Tab → Edited A
+  editIn s position start end given new slots room (faulty number place) = stop number place
+  editIn s position start end given new slots room (tab specs lens next) =
+      cond (ltb position (length specs))
+      (editRow (take (getD lens position 0) (drop (startOf lens next position) s)) (getD specs position 0) start end given new slots room
+      (λ column. newBlock s specs lens next position column))
+      (stop 16 0)
+
+  unfoldable pub edited : List ℕ → ℕ → ℕ → ℕ → Answer → List A → ℕ → ℕ → Edited A
+  edited s position start end given new slots room = editIn s position start end given new slots room (parse s)
+
+-- what is left behind: a slot slice that holds f of each reading (z where nothing is any more), and the output
+abbrev pub slotsLeft : {A B : Type 0} → B → (A → B) → Edited A → List B → List B
+slotsLeft z f (stop number place) slots = slots
+slotsLeft z f (late number place old xs) slots = inSlots z slots old (map f xs)
+slotsLeft z f (accepted old xs block) slots = inSlots z slots old (map f xs)
+
+abbrev pub outLeft : {A : Type 0} → Edited A → List ℕ → List ℕ
+outLeft (stop number place) out = out
+outLeft (late number place old xs) out = out
+outLeft (accepted old xs block) out = block ++ drop (length block) out

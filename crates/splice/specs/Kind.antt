@@ -1,0 +1,18 @@
+-- What an edit needs of the kind of column that it edits: which types it serves (from low to high), what a column's bytes read as, what a list is written as,
+-- and the first reading that cannot be written (7). A is one reading of the list.
+use Prim.Native.Nat.{ℕ}
+use mathlib.Core.List.{List, map}
+use mathlib.Core.Option.{Option}
+use Rattle.encoding.specs.Walk.{Trace}
+use Rattle.encoding.specs.Column.{Reading, value}
+
+pub record Kind (A : Type 0) : Type 0 where
+  pub low : ℕ
+  pub high : ℕ
+  pub reads : List ℕ → Trace A
+  pub writes : List A → List ℕ
+  pub wide : List A → Option ℕ
+
+-- the readings of a trace without their places
+abbrev pub values : {A : Type 0} → Trace (Reading A) → Trace (Option A)
+values t = record { readings = map value (t .readings); ending = t .ending }

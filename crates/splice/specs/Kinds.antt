@@ -1,0 +1,43 @@
+-- The three kinds of column that edits serve (01, "Specifications": 1 Actor, 2 Integer, 3 DeltaInteger, 4 Boolean).
+use Prim.Native.Nat.{ℕ}
+use mathlib.Core.Option.{Option, none}
+use lib.IntN.{ℤ, pos}
+use Rattle.encoding.specs.Column.{trace}
+use Rattle.encoding.specs.Writer.{columnBytes}
+use Rattle.rle.specs.Word.{u64E}
+use Rattle.delta.specs.Sums.{deltaTrace}
+use Rattle.delta.specs.Differences.{differences, deltaBytes, wideAt}
+use Rattle.boolean.specs.Turns.{boolTrace}
+use Rattle.boolean.specs.Writer.{boolBytes}
+use Rattle.splice.specs.Kind.{Kind, values}
+
+abbrev pub integer : Kind (Option ℕ)
+integer =
+    record {
+      low = 1;
+      high = 2;
+      reads = λ s. values (trace u64E s);
+      writes = columnBytes u64E;
+      wide = λ xs. none;
+    }
+
+abbrev pub delta : Kind (Option ℤ)
+delta =
+    record {
+      low = 3;
+      high = 3;
+      reads = λ s. values (deltaTrace s);
+      writes = deltaBytes;
+      wide = λ xs. wideAt 0 (differences (pos 0) xs);
+    }
+
+-- "Edits and all else use the plain form."
+abbrev pub boolean : Kind ℕ
+boolean =
+    record {
+      low = 4;
+      high = 4;
+      reads = boolTrace;
+      writes = boolBytes;
+      wide = λ xs. none;
+    }
