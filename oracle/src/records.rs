@@ -1,7 +1,13 @@
 //! Records of answers, one call a line, in the form of docs/RECORDS.md. A module a group of families.
 
+mod boolean;
+mod columns;
+mod delta;
 mod numbers;
+mod optional;
+mod rle;
 mod specifications;
+mod tables;
 mod writing;
 
 use crate::random::Random;
@@ -13,7 +19,7 @@ pub struct Options {
     pub seed: u64,
     /// how many records are made by chance
     pub count: u64,
-    /// numbers-short: few bytes behind a number that is over
+    /// fewer of the inputs that are all tried; the family says which
     pub lean: bool,
 }
 
@@ -23,7 +29,7 @@ pub struct Family {
     write: fn(&mut String, &Options, &mut Random),
 }
 
-pub const FAMILIES: [Family; 4] = [
+pub const FAMILIES: [Family; 11] = [
     Family {
         name: "numbers-short",
         about: "the four readers on all inputs of 0 to 2 bytes",
@@ -43,6 +49,41 @@ pub const FAMILIES: [Family; 4] = [
         name: "specifications",
         about: "packed and unpacked specifications",
         write: specifications::all,
+    },
+    Family {
+        name: "rle-lists",
+        about: "lists of optional u64 written as RLE columns",
+        write: rle::lists,
+    },
+    Family {
+        name: "rle-bytes",
+        about: "RLE columns of optional u64, sound and faulty ones, counted and decoded",
+        write: rle::bytes,
+    },
+    Family {
+        name: "boolean-lists",
+        about: "boolean lists written as columns, in both forms",
+        write: boolean::lists,
+    },
+    Family {
+        name: "boolean-bytes",
+        about: "boolean columns, sound and faulty ones, counted and decoded",
+        write: boolean::bytes,
+    },
+    Family {
+        name: "delta-lists",
+        about: "lists of optional i64 written as delta columns",
+        write: delta::lists,
+    },
+    Family {
+        name: "delta-bytes",
+        about: "delta columns of optional i64, sound and faulty ones, counted and decoded",
+        write: delta::bytes,
+    },
+    Family {
+        name: "tables",
+        about: "tables and blocks, sound and faulty ones: rows, columns by position and specification, frames",
+        write: tables::all,
     },
 ];
 
@@ -95,6 +136,13 @@ impl Record {
         self.field(Bytes(bytes))
     }
 
+    /// The slices of a list, each as a list.
+    fn lists(self, slices: &[Vec<u64>]) -> Self {
+        slices
+            .iter()
+            .fold(self, |record, slice| record.field(List(slice)))
+    }
+
     /// The call is accepted.
     fn accepted(self) -> Self {
         self.field("= 0 0")
@@ -138,6 +186,30 @@ impl Display for Bytes<'_> {
                 open = true;
             }
             comma = ",";
+        }
+        Ok(())
+    }
+}
+
+/// Numbers with a comma between two, three or more of the same with a count.
+struct List<'a>(&'a [u64]);
+
+impl Display for List<'_> {
+    fn fmt(&self, f: &mut fmt::Formatter<'_>) -> fmt::Result {
+        if self.0.is_empty() {
+            return f.write_str("-");
+        }
+        let mut comma = "";
+        for run in self.0.chunk_by(|a, b| a == b) {
+            if run.len() >= 3 {
+                write!(f, "{comma}{:x}*{:x}", run.len(), run[0])?;
+                comma = ",";
+            } else {
+                for number in run {
+                    write!(f, "{comma}{number:x}")?;
+                    comma = ",";
+                }
+            }
         }
         Ok(())
     }

@@ -29,6 +29,15 @@ pub enum Verdict {
     Unknown,
 }
 
+// Has a family the call?
+pub fn is_known(v: Verdict) -> bool {
+    if let Verdict::Unknown = v {
+        false
+    } else {
+        true
+    }
+}
+
 // An input of a call, and the cursor behind it.
 pub struct Taken {
     pub value: u64,
@@ -168,12 +177,11 @@ fn show_bytes(answer: &[u8]) {
     }
 }
 
-fn compare_bytes(line: &[u8], c: Cursor, answer: &[u8]) -> Cursor {
-    let mut recorded = io::buffer();
+fn compare_bytes(line: &[u8], c: Cursor, answer: &[u8], recorded: &mut [u8]) -> Cursor {
     let rest = next(line, c);
-    match fill(field(line, c), &mut recorded) {
+    match fill(field(line, c), recorded) {
         Filled::Count(n) => {
-            if check::same(between(&recorded, 0, n), answer) {
+            if check::same(between(recorded, 0, n), answer) {
                 rest
             } else {
                 differing(rest)
@@ -185,6 +193,12 @@ fn compare_bytes(line: &[u8], c: Cursor, answer: &[u8]) -> Cursor {
 
 // Holds bytes that were answered to the recorded ones, unless those are `*`.
 pub fn expect_bytes(line: &[u8], c: Cursor, answer: &[u8]) -> Cursor {
+    let mut recorded = io::buffer();
+    expect_bytes_in(line, c, answer, &mut recorded)
+}
+
+// The same, with the room for the recorded ones.
+pub fn expect_bytes_in(line: &[u8], c: Cursor, answer: &[u8], recorded: &mut [u8]) -> Cursor {
     if c.shown {
         io::write_all(1, b" ");
         show_bytes(answer);
@@ -193,7 +207,7 @@ pub fn expect_bytes(line: &[u8], c: Cursor, answer: &[u8]) -> Cursor {
     if is_sign(field(line, c), b'*') {
         return next(line, c);
     }
-    compare_bytes(line, c, answer)
+    compare_bytes(line, c, answer, recorded)
 }
 
 // The verdict on a line of which everything was read: nothing may follow.

@@ -2,14 +2,21 @@
 //
 // The arguments are the files. For each it writes how many records the file has and how many differ, and for the first
 // that differs its line and what was answered. A line that is no record, or longer than 65,536 bytes, differs too.
+mod booleans;
+mod columns;
+mod deltas;
 mod fields;
+mod integers;
+mod lists;
 mod numbers;
 mod signed;
 mod specifications;
+mod tables;
 mod text;
 
 use fields::Cursor;
 use fields::Verdict;
+use fields::is_known;
 
 // What is known of a file.
 struct Tally {
@@ -41,15 +48,15 @@ fn run(name: &[u8], line: &[u8], c: Cursor) -> Verdict {
     if is_known(v) {
         return v;
     }
-    Verdict::Malformed
-}
-
-fn is_known(v: Verdict) -> bool {
-    if let Verdict::Unknown = v {
-        false
-    } else {
-        true
+    let v = tables::run(name, line, c);
+    if is_known(v) {
+        return v;
     }
+    let v = columns::run(name, line, c);
+    if is_known(v) {
+        return v;
+    }
+    Verdict::Malformed
 }
 
 // Runs the call of a line, and compares its answers or, where `shown`, writes them.

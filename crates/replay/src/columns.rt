@@ -1,0 +1,136 @@
+// The calls of the crates of columns, and what they share. Lists and bytes, inputs and outputs, have at most 20,000.
+ghost use mathlib.Core.Path.{_≡_};
+ghost use lib.ListN.{length};
+use crate::booleans;
+use crate::deltas;
+use crate::fields;
+use crate::fields::Cursor;
+use crate::fields::Verdict;
+use crate::fields::is_known;
+use crate::integers;
+use encoding::Answer;
+
+// Room for a list or for bytes. There are few in most records, and to zero much room for each would take most of the time.
+fn few_words() -> [u64; 256]
+    ensures { λ r. ⌜ 256 ≡ length r ⌝ }
+{
+    [0; 256]
+}
+
+fn few_signed() -> [i64; 256]
+    ensures { λ r. ⌜ 256 ≡ length r ⌝ }
+{
+    [0; 256]
+}
+
+fn few_bytes() -> [u8; 256]
+    ensures { λ r. ⌜ 256 ≡ length r ⌝ }
+{
+    [0; 256]
+}
+
+fn many_words() -> [u64; 20000]
+    ensures { λ r. ⌜ 20000 ≡ length r ⌝ }
+{
+    [0; 20000]
+}
+
+fn many_signed() -> [i64; 20000]
+    ensures { λ r. ⌜ 20000 ≡ length r ⌝ }
+{
+    [0; 20000]
+}
+
+fn many_bytes() -> [u8; 20000]
+    ensures { λ r. ⌜ 20000 ≡ length r ⌝ }
+{
+    [0; 20000]
+}
+
+// The families' calls by name: with little room, and where the line is then no record, with much.
+pub fn run(name: &[u8], line: &[u8], c: Cursor) -> Verdict {
+    let v = run_few(name, line, c);
+    if let Verdict::Malformed = v {
+        return run_many(name, line, c);
+    }
+    v
+}
+
+fn run_few(name: &[u8], line: &[u8], c: Cursor) -> Verdict {
+    let mut values = few_words();
+    let mut signed = few_signed();
+    let mut present = few_bytes();
+    let mut bytes = few_bytes();
+    let mut recorded = few_bytes();
+    run_in(
+        name,
+        line,
+        c,
+        &mut values,
+        &mut signed,
+        &mut present,
+        &mut bytes,
+        &mut recorded,
+    )
+}
+
+fn run_many(name: &[u8], line: &[u8], c: Cursor) -> Verdict {
+    let mut values = many_words();
+    let mut signed = many_signed();
+    let mut present = many_bytes();
+    let mut bytes = many_bytes();
+    let mut recorded = many_bytes();
+    run_in(
+        name,
+        line,
+        c,
+        &mut values,
+        &mut signed,
+        &mut present,
+        &mut bytes,
+        &mut recorded,
+    )
+}
+
+// A new family has a line here, where it takes lists.
+fn run_in(
+    name: &[u8],
+    line: &[u8],
+    c: Cursor,
+    values: &mut [u64],
+    signed: &mut [i64],
+    present: &mut [u8],
+    bytes: &mut [u8],
+    recorded: &mut [u8],
+) -> Verdict {
+    let v = integers::run(name, line, c, values, present, bytes, recorded);
+    if is_known(v) {
+        return v;
+    }
+    let v = booleans::run(name, line, c, present, bytes, recorded);
+    if is_known(v) {
+        return v;
+    }
+    deltas::run(name, line, c, signed, present, bytes, recorded)
+}
+
+// NUMBER PLACE COUNT, or LENGTH for COUNT
+pub fn expect(line: &[u8], c: Cursor, answer: Answer) -> Cursor {
+    match answer {
+        Answer::Done(n) => fields::expect_number(line, fields::expect_refusal(line, c, 0, 0), n),
+        Answer::Refused(n, place) => {
+            fields::expect_number(line, fields::expect_refusal(line, c, n, place), 0)
+        }
+    }
+}
+
+// The verdict on a record that has no further answers.
+pub fn judged(line: &[u8], c: Cursor, answer: Answer) -> Verdict {
+    fields::judged(line, expect(line, c, answer))
+}
+
+// NUMBER PLACE LENGTH OUT-AFTER
+pub fn written(line: &[u8], c: Cursor, answer: Answer, out: &[u8], recorded: &mut [u8]) -> Verdict {
+    let at_out = expect(line, c, answer);
+    fields::judged(line, fields::expect_bytes_in(line, at_out, out, recorded))
+}
