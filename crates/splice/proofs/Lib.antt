@@ -1,3 +1,4 @@
+pub mod BooleanEdits
 pub mod Counting
 pub mod Editing
 pub mod Examples

@@ -6,13 +6,15 @@ use mathlib.Core.Option.{Option, none, some}
 use mathlib.Core.Bool.{Bool, true, false, cond}
 use native.Mathlib.Omega.{arith}
 use lib.Dec.{leb, eqb}
+use lib.IntN.{ℤ, pos}
 use lib.ListN.{length, take, drop, length-drop, drop-of-length-le}
 use lib.Seq.{take-at, take-all}
 use borrow.Rule.Slice.PartMut.{putMid, postOf}
 use borrow.Author.Tests.{leb-true, leb-false, le-leb, lt-leb, eq-eqb}
 use Rattle.leb128.specs.Answer.{Answer, done, refused, within, left}
 use Rattle.encoding.specs.Limit.{limit}
-use Rattle.encoding.specs.Given.{badFlag, flagsJudged, listJudged, sized, Encoded}
+use Rattle.encoding.specs.Given.{slotList, badFlag, flagsJudged, listJudged, sized, Encoded}
+use Rattle.delta.specs.Differences.{differences, wideAt, widthJudged, deltaJudged}
 use Rattle.raw_column.specs.Columns.{newBlock}
 use Rattle.raw_column.specs.Frame.{Framed, shut, room, headOf, tailOf, framed, frameOf, frameOut}
 use Rattle.raw_column.specs.declared.Frame.{Frame}
@@ -48,6 +50,14 @@ lent-back at out ys bytes h e =
 abbrev pub judgedAs : ℕ → Option ℕ → Answer
 judgedAs n none = done n
 judgedAs n (some i) = refused 7 i
+
+pub delta-judged : (v : List ℤ) (p : List ℕ) → Good (length v) p → deltaJudged v p ≡ judgedAs (length v) (wideAt 0 (differences (pos 0) (slotList v p)))
+unfolding deltaJudged widthJudged
+delta-judged v p g = rw (good-judged g) (go (wideAt 0 (differences (pos 0) (slotList v p))))
+  where
+    go : (w : Option ℕ) → widthJudged (done (length v)) w ≡ judgedAs (length v) w
+    go none = refl
+    go (some i) = refl
 
 module _ (bytes : List ℕ) (m : ℕ) where
   pub size-done : (w : Option ℕ) {n : ℕ} → sized bytes (judgedAs m w) ≡ done n → (n ≡ length bytes) × (w ≡ none)

@@ -1,8 +1,12 @@
 // The edits: a range of one column's readings replaced, and the whole new block written (the splice of the crate's
 // columnar/column_range/delta.rs, for run-length and boolean columns too).
+mod booleans;
 mod checks;
+mod deltas;
 mod integers;
 
+pub use booleans::splice_boolean;
+pub use deltas::splice_delta;
 pub use integers::splice_integer;
 use raw_column::Table;
 
