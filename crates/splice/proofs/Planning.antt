@@ -191,37 +191,6 @@ module _ (old start end new slots : ℕ) where
     result-done m f e =
         rw (le-ltb old start h, le-ltb limit (resultLength old start end new) m, le-ltb slots (max old (resultLength old start end new)) f) (ap done e)
 
-  -- a result that is not refused
-  pub record Judged (n : ℕ) : Type 0 where
-    pub starts : start ≤ old
-    pub long : n ≡ resultLength old start end new
-    pub few : n ≤ limit
-    pub old-fits : old ≤ slots
-    pub new-fits : n ≤ slots
-
-  pub result-is : {n : ℕ} → resultJudged old start end new slots ≡ done n → Judged n
-  unfolding resultJudged
-  result-is {n} e = go (ltb old start) (ltb limit L) (ltb slots (max old L)) refl refl refl e
-    where
-      L : ℕ
-      L = resultLength old start end new
-
-      go : (a b c : Bool) → ltb old start ≡ a → ltb limit L ≡ b → ltb slots (max old L) ≡ c
-          → cond a (refused 18 0) (cond b (refused 5 0) (cond c (refused 9 0) (done L))) ≡ done n → Judged n
-      go false false false x y w q =
-          let k : L ≡ n = cc in
-          let m = ltb-false slots (max old L) w in
-          record {
-            starts = ltb-false old start x;
-            long = sym k;
-            few = omega (arith, k, ltb-false limit L y);
-            old-fits = omega (arith, m);
-            new-fits = omega (arith, m, k);
-          }
-      go false false true x y w q = let z : _≡_ {A = ℕ} 0 1 = cc in absurd (omega arith)
-      go false true c x y w q = let z : _≡_ {A = ℕ} 0 1 = cc in absurd (omega arith)
-      go true b c x y w q = let z : _≡_ {A = ℕ} 0 1 = cc in absurd (omega arith)
-
 -- ---- a column's readings, where it is sound
 pub sound-is : {R : Type 0} (t : Trace R) {n : ℕ} → outcome t ≡ done n → length (t .readings) ≡ n
 unfolding outcome outcomeOf

@@ -1,12 +1,12 @@
--- `slots::bytes::move_down_u8` meets its contract: elements are stored in order, each read before it is overwritten. Assumes nothing.
+-- `slots::flags::move_down_u8` meets its contract: elements are stored in order, each read before it is overwritten. Assumes nothing.
 use borrow.Author.Needs.{needs}
 use Prim.Native.Nat.{_-_, _≤_, zero-le}
 use mathlib.Core.Path.{refl}
 use native.Mathlib.Omega.{arith}
 use lib.ListN.{drop}
 use Rattle.slots.proofs.Moves.{Stored, stored-none, stored-all, down-turn}
-use Rattle.slots.proofs.bytes.move_down_u8.Statement.{statement}
-use Rattle.slots.proofs.bytes.move_down_u8.Tie as tie
+use Rattle.slots.proofs.flags.move_down_u8.Statement.{statement}
+use Rattle.slots.proofs.flags.move_down_u8.Tie as tie
 
 abbrev Inv-loop : tie.InvT-loop
 Inv-loop s₀ from to n i₀ s i = (i ≤ n) × Stored s₀ to (drop from s₀) i s

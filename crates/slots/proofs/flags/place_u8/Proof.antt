@@ -1,10 +1,10 @@
--- `slots::bytes::place_u8` meets its contract: the move and the put make the new list, and what the old one leaves is cleared. Assumes nothing.
+-- `slots::flags::place_u8` meets its contract: the move and the put make the new list, and what the old one leaves is cleared. Assumes nothing.
 use borrow.Author.Needs.{needs}
 use mathlib.Core.Path.{refl}
 use denote.Ref.{now}
 use Rattle.slots.proofs.Splicing.{placed, placed-cleared}
-use Rattle.slots.proofs.bytes.place_u8.Statement.{statement}
-use Rattle.slots.proofs.bytes.place_u8.Tie as tie
+use Rattle.slots.proofs.flags.place_u8.Statement.{statement}
+use Rattle.slots.proofs.flags.place_u8.Tie as tie
 
 add-to : tie.Need-add-to
 add-to c = search needs

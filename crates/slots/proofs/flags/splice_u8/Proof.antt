@@ -1,10 +1,10 @@
--- `slots::bytes::splice_u8` meets its contract: its tests answer as the definition does, and where they pass there is room. Assumes nothing.
+-- `slots::flags::splice_u8` meets its contract: its tests answer as the definition does, and where they pass there is room. Assumes nothing.
 use borrow.Author.Needs.{needs}
 use native.Mathlib.Omega.{arith}
 use denote.Ref.{now}
 use Rattle.slots.proofs.Splicing.{splice-turned, splice-past, splice-full, splice-done}
-use Rattle.slots.proofs.bytes.splice_u8.Statement.{statement}
-use Rattle.slots.proofs.bytes.splice_u8.Tie as tie
+use Rattle.slots.proofs.flags.splice_u8.Statement.{statement}
+use Rattle.slots.proofs.flags.splice_u8.Tie as tie
 
 returns : tie.Need-returns
 returns c = splice-turned _ _ _ _ _ (now (c .before .before .before .args .new)) (omega arith)

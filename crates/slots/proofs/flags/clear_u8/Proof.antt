@@ -1,11 +1,11 @@
--- `slots::bytes::clear_u8` meets its contract: a turn clears one slot more. Assumes nothing.
+-- `slots::flags::clear_u8` meets its contract: a turn clears one slot more. Assumes nothing.
 use borrow.Author.Needs.{needs}
 use Prim.Native.Nat.{_-_, _≤_}
 use native.Mathlib.Omega.{arith}
 use lib.ListN.{replicate}
 use Rattle.slots.proofs.Moves.{Stored, stored-all, clear-start, clear-turn}
-use Rattle.slots.proofs.bytes.clear_u8.Statement.{statement}
-use Rattle.slots.proofs.bytes.clear_u8.Tie as tie
+use Rattle.slots.proofs.flags.clear_u8.Statement.{statement}
+use Rattle.slots.proofs.flags.clear_u8.Tie as tie
 
 abbrev Inv-loop : tie.InvT-loop
 Inv-loop s₀ at end i₀ s i = (at ≤ i) × (i ≤ end) × Stored s₀ at (replicate (end - at) 0) (i - at) s

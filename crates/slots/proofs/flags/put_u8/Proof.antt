@@ -1,4 +1,4 @@
--- `slots::bytes::put_u8` meets its contract: a turn stores one more of the new elements. Assumes nothing.
+-- `slots::flags::put_u8` meets its contract: a turn stores one more of the new elements. Assumes nothing.
 use borrow.Author.Needs.{needs}
 use Prim.Native.Nat.{_-_, _≤_, zero-le}
 use mathlib.Core.Path.{refl}
@@ -6,8 +6,8 @@ use native.Mathlib.Omega.{arith}
 use denote.Ref.{now}
 use lib.ListN.{length}
 use Rattle.slots.proofs.Moves.{Stored, stored-none, stored-all, put-turn}
-use Rattle.slots.proofs.bytes.put_u8.Statement.{statement}
-use Rattle.slots.proofs.bytes.put_u8.Tie as tie
+use Rattle.slots.proofs.flags.put_u8.Statement.{statement}
+use Rattle.slots.proofs.flags.put_u8.Tie as tie
 
 abbrev Inv-loop : tie.InvT-loop
 Inv-loop s₀ at new i₀ s i = (i ≤ length new) × Stored s₀ at new i s
