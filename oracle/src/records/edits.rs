@@ -170,11 +170,11 @@ pub fn all(out: &mut String, options: &Options, random: &mut Random) {
         around(out, options, random, column);
     }
     comment(out, "around 16,384 bytes");
-    for (n, new) in [(16_382, 1), (16_383, 0), (16_382, 0)] {
-        let list = (BOOLEAN.alternating)(n);
-        let place = placed(&BOOLEAN, column_of(&BOOLEAN, &list), 2);
-        let new = slices(&(BOOLEAN.alternating)(new), 1);
-        let mut edit = edit(place, (0, 1 - new[0].len()), new);
+    for (old, new) in [(16_382, 16_383), (16_383, 16_384), (16_384, 16_383)] {
+        let column = column_of(&BOOLEAN, &(BOOLEAN.alternating)(old));
+        let kept = old.min(new);
+        let new = slices(&(BOOLEAN.alternating)(new)[kept..], 1);
+        let mut edit = edit(placed(&BOOLEAN, column, 2), (kept, old), new);
         lend(&BOOLEAN.served, &mut edit, 0, 0, random);
         record(out, &BOOLEAN.served, edit);
     }
