@@ -122,17 +122,21 @@ fn given(list: &[Reading], count: usize, random: &mut Random) -> Slices {
     given
 }
 
+/// More slots, and a longer output, than any record has.
+const ROOM: usize = 40_000;
+
 /// Lends slots and an output: just enough, more, or `slots_short` and `out_short` too few.
 fn lend(served: &Served, edit: &mut Edit, slots_short: u64, out_short: u64, random: &mut Random) {
-    let roomy = |edit: &Edit| Edit {
-        slots: vec![vec![0; 40_000]; served.slices],
+    let roomy = Edit {
+        slots: vec![vec![0; ROOM]; served.slices],
         ..edit.clone()
     };
+    // where the edit is refused whatever is lent
     let (mut slots, mut out) = (3, 5);
-    if let Ok(ready) = ready(served, &roomy(edit)) {
+    if let Ok(ready) = ready(served, &roomy) {
         slots = ready.old.max(ready.list.len()) as u64;
         if let Ok(column) = new_column(served, edit, &ready) {
-            let mut room = vec![0; 40_000];
+            let mut room = vec![0; ROOM];
             let size = column.len() as u64;
             let length = frame(&edit.block, edit.position, size, &mut room);
             out = length.unwrap().1 as u64;
@@ -170,14 +174,7 @@ pub fn all(out: &mut String, options: &Options, random: &mut Random) {
         around(out, options, random, column);
     }
     comment(out, "around 16,384 bytes");
-    for (old, new) in [(16_382, 16_383), (16_383, 16_384), (16_384, 16_383)] {
-        let column = column_of(&BOOLEAN, &(BOOLEAN.alternating)(old));
-        let kept = old.min(new);
-        let new = slices(&(BOOLEAN.alternating)(new)[kept..], 1);
-        let mut edit = edit(placed(&BOOLEAN, column, 2), (kept, old), new);
-        lend(&BOOLEAN.served, &mut edit, 0, 0, random);
-        record(out, &BOOLEAN.served, edit);
-    }
+    far(out, random);
     comment(out, "by chance, whole and faulty");
     for _ in 0..options.count {
         let column = random.pick(&COLUMNS);
@@ -228,6 +225,18 @@ fn around(out: &mut String, options: &Options, random: &mut Random, column: &Col
                 record(out, &column.served, edit);
             }
         }
+    }
+}
+
+/// Columns of 16,382 to 16,384 bytes, which only a boolean list has in a line.
+fn far(out: &mut String, random: &mut Random) {
+    for (old, new) in [(16_382, 16_383), (16_383, 16_384), (16_384, 16_383)] {
+        let column = column_of(&BOOLEAN, &(BOOLEAN.alternating)(old));
+        let kept = old.min(new);
+        let new = slices(&(BOOLEAN.alternating)(new)[kept..], 1);
+        let mut edit = edit(placed(&BOOLEAN, column, 2), (kept, old), new);
+        lend(&BOOLEAN.served, &mut edit, 0, 0, random);
+        record(out, &BOOLEAN.served, edit);
     }
 }
 
@@ -302,7 +311,7 @@ fn chance_range(length: u64, random: &mut Random) -> (u64, u64) {
 /// One fault of the call.
 fn spoil(column: &Column, edit: &mut Edit, length: u64, random: &mut Random) {
     match random.below(7) {
-        0 => edit.position += 1 + random.below(3),
+        0 => edit.position = edit.position.saturating_add(1 + random.below(3)),
         1 => edit.position = random.wide(),
         // another column, of which the call may not serve the type
         2 => edit.position = random.below(3),
@@ -313,8 +322,10 @@ fn spoil(column: &Column, edit: &mut Edit, length: u64, random: &mut Random) {
         }
         5 => {
             let bytes = edit.new.last_mut().unwrap();
-            let at = random.below(bytes.len() as u64 + 1) as usize;
-            bytes.insert(at, 2 + random.below(254));
+            if !bytes.is_empty() {
+                let at = random.below(bytes.len() as u64) as usize;
+                bytes[at] = 2 + random.below(254);
+            }
         }
         _ => {
             let slice = random.below(column.served.slices as u64) as usize;
