@@ -1,8 +1,8 @@
 -- 01's table of examples, E1 to E12 and the edit, as one statement: each row by computation. Assumes nothing.
 use Prim.Native.Nat.{_-_, _^_}
 use mathlib.Core.Path.{_≡_, refl}
-use mathlib.Core.List.{List, [], _∷_, _++_}
-use mathlib.Core.Option.{Option, none, some}
+use mathlib.Core.List.{[], _∷_, _++_}
+use mathlib.Core.Option.{none, some}
 use lib.IntN.{pos, negsuc}
 use lib.ListN.{replicate}
 use Rattle.leb128.specs.Answer.{done}

@@ -2,21 +2,20 @@
 -- keep their bytes; an accepted edit writes the encoding of the old list with the range replaced." Assumes nothing.
 use Prim.Native.Nat.{ℕ, _+_, _-_, _^_, _≤_, _<_, min, max}
 use mathlib.Core.Path.{_≡_, refl, sym, ap, _∙_, subst}
-use mathlib.Core.List.{List, [], _++_, map}
+use mathlib.Core.List.{List, [], _++_}
 use mathlib.Core.Option.{Option, none, some}
-use mathlib.Core.Bool.{Bool, true, false, cond, _&&_}
+use mathlib.Core.Bool.{Bool, true, false, cond}
 use native.Mathlib.Omega.{arith}
 use lib.Seq.{drop-drop, length-take-le}
 use lib.ListN.{length, getD, set, take, drop, length-append, length-take, length-drop, take-append-drop}
 use lib.Dec.{ltb, leb}
 use borrow.Author.Tests.{ltb-true, leb-true}
 use Rattle.leb128.specs.Answer.{Answer, done, refused}
-use Rattle.column_specification.specs.Specification.{typeOf}
 use Rattle.encoding.specs.Limit.{limit}
 use Rattle.encoding.specs.Walk.{Ending, fault, outcomeOf, outcome}
 use Rattle.encoding.proofs.Lists.{cond-by}
-use Rattle.raw_column.specs.Table.{Tab, tab, faulty, sum, parse}
-use Rattle.raw_column.specs.Columns.{cut, tableBytes, blockBytes, newBlock}
+use Rattle.raw_column.specs.Table.{Tab, tab, sum, parse}
+use Rattle.raw_column.specs.Columns.{tableBytes, newBlock}
 use Rattle.raw_column.specs.Part.{startOf, partAt, bytesOf}
 use Rattle.raw_column.specs.Rows.{opened}
 use Rattle.raw_column.specs.Frame.{headOf, tailOf}
@@ -25,7 +24,7 @@ use Rattle.raw_column.proofs.Cutting.{cut-at}
 use Rattle.raw_column.proofs.Tables.{Below, table-fills, table-back}
 use Rattle.slots.specs.Splice.{spliced}
 use Rattle.splice.specs.Kind.{Kind}
-use Rattle.splice.specs.Edit.{Edited, stop, late, accepted, endIn, serves, finished, editList, readBy, editColumn, editRow, editIn, edited, answered, slotsLeft}
+use Rattle.splice.specs.Edit.{Edited, stop, late, accepted, endIn, serves, finished, editList, readBy, editColumn, editIn, edited, answered, slotsLeft}
 
 -- the column at a position, as an edit takes it
 abbrev columnAt : List ℕ → List ℕ → ℕ → ℕ → List ℕ

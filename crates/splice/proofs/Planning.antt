@@ -1,14 +1,14 @@
 -- The checks as the code makes them, over the kind of column: one law for each way out, and that they are those of an edit. Assumes nothing.
-use Prim.Native.Nat.{ℕ, _+_, _-_, _≤_, _<_, max, min}
+use Prim.Native.Nat.{ℕ, _+_, _-_, _≤_, _<_, max}
 use mathlib.Core.Path.{_≡_, refl, sym, ap, _∙_, subst}
 use mathlib.Core.List.{List}
 use mathlib.Core.Option.{Option, none, some}
-use mathlib.Core.Bool.{Bool, true, false, cond, _&&_}
+use mathlib.Core.Bool.{Bool, true, false, cond}
 use native.Mathlib.Omega.{arith}
 use lib.Dec.{ltb, leb, eqb}
 use lib.ListN.{length, getD, take, drop}
 use lib.Seq.{getD-take}
-use borrow.Author.Tests.{ltb-true, ltb-false, lt-ltb, le-ltb, leb-true, leb-false, le-leb, lt-leb, eqb-true, eq-eqb, ne-eqb}
+use borrow.Author.Tests.{ltb-true, ltb-false, lt-ltb, le-ltb, leb-true, leb-false, le-leb, lt-leb, eq-eqb, ne-eqb}
 use Rattle.leb128.specs.Answer.{Answer, done, refused}
 use Rattle.column_specification.specs.Specification.{typeOf}
 use Rattle.encoding.specs.Limit.{limit}
@@ -18,11 +18,11 @@ use Rattle.encoding.specs.Column.{trace}
 use Rattle.rle.specs.Word.{u64E}
 use Rattle.delta.specs.Sums.{deltaTrace}
 use Rattle.boolean.specs.Turns.{boolTrace}
-use Rattle.raw_column.specs.Table.{Tab, tab, faulty, sum, parse}
+use Rattle.raw_column.specs.Table.{Tab, tab, faulty, parse}
 use Rattle.raw_column.specs.Columns.{newBlock}
 use Rattle.raw_column.specs.Part.{startOf}
 use Rattle.raw_column.specs.declared.Opened.{Opened}
-use Rattle.raw_column.proofs.Opening.{Open, specsOf, lensOf, rows-long, len-at, sum-to}
+use Rattle.raw_column.proofs.Opening.{Open, specsOf, rows-long, len-at, sum-to}
 use Rattle.raw_column.proofs.Tables.{table-fills}
 use Rattle.slots.specs.Splice.{spliced}
 use Rattle.slots.proofs.Splicing.{length-spliced}
@@ -30,7 +30,6 @@ use Rattle.splice.specs.Kind.{Kind}
 use Rattle.splice.specs.Edit.{Edited, stop, endIn, serves, flagsIn, givenOptional, finished, editList, readBy, editColumn, editIn, edited}
 use Rattle.splice.specs.Steps.{rowIn, rowFor, countAs, resultLength, resultJudged, onResult, onCount, onGiven, onRow, planned}
 use Rattle.splice.specs.Ready.{HasRow, Ready}
-use Rattle.splice.specs.declared.Row.{Row}
 use Rattle.splice.specs.declared.Row.the-variants as row
 use Rattle.splice.specs.declared.Plan.{Plan}
 use Rattle.splice.specs.declared.Plan.the-variants as plan
