@@ -3,5 +3,6 @@ pub mod Encoded
 pub mod Laws
 pub mod Only
 pub mod Scanning
+pub mod Short
 pub mod Sound
 pub mod Twos

@@ -101,8 +101,8 @@ fn u64_of(at: usize, low: u64, scale: u64, prev: u8, last: u8, count: usize) -> 
     ParsedU64::Number(low + scale * wide(last), at + count)
 }
 
-// The u64 at a position, or its refusal.
-pub fn leb128_u64(s: &[u8], at: usize) -> ParsedU64
+// One of any length.
+fn long_u64(s: &[u8], at: usize) -> ParsedU64
     ensures { λ r. ⌜ u64Of r ≡ u64At (now (s .entry)) at ⌝ }
 {
     match digits_at(s, at) {
@@ -115,6 +115,19 @@ pub fn leb128_u64(s: &[u8], at: usize) -> ParsedU64
         } => u64_of(at, low, scale, prev, last, count),
         Digits::Broken(r) => ParsedU64::Refused(r, if at < s.len() { at } else { s.len() }),
     }
+}
+
+// The u64 at a position, or its refusal.
+pub fn leb128_u64(s: &[u8], at: usize) -> ParsedU64
+    ensures { λ r. ⌜ u64Of r ≡ u64At (now (s .entry)) at ⌝ }
+{
+    if at < s.len() {
+        let b = s[at];
+        if b < 128 {
+            return ParsedU64::Number(wide(b), at + 1);
+        }
+    }
+    long_u64(s, at)
 }
 
 // n as a signed number, and -(n + 1), whose bits are those of n complemented.
@@ -166,8 +179,8 @@ fn i64_of(at: usize, low: u64, scale: u64, prev: u8, last: u8, count: usize) -> 
     }
 }
 
-// The i64 at a position, or its refusal.
-pub fn leb128_i64(s: &[u8], at: usize) -> ParsedI64
+// One of any length.
+fn long_i64(s: &[u8], at: usize) -> ParsedI64
     ensures { λ r. ⌜ i64Of r ≡ i64At (now (s .entry)) at ⌝ }
 {
     match digits_at(s, at) {
@@ -180,6 +193,22 @@ pub fn leb128_i64(s: &[u8], at: usize) -> ParsedI64
         } => i64_of(at, low, scale, prev, last, count),
         Digits::Broken(r) => ParsedI64::Refused(r, if at < s.len() { at } else { s.len() }),
     }
+}
+
+// The i64 at a position, or its refusal.
+pub fn leb128_i64(s: &[u8], at: usize) -> ParsedI64
+    ensures { λ r. ⌜ i64Of r ≡ i64At (now (s .entry)) at ⌝ }
+{
+    if at < s.len() {
+        let b = s[at];
+        if b < 64 {
+            return ParsedI64::Number(up(wide(b)), at + 1);
+        }
+        if b < 128 {
+            return ParsedI64::Number(down(wide(127 - b)), at + 1);
+        }
+    }
+    long_i64(s, at)
 }
 
 // The u32 at a position, read as a u64 first, or its refusal.
