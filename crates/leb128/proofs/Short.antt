@@ -1,15 +1,14 @@
--- Numbers of one byte: what the readers answer without looking further. Assumes nothing.
-use Prim.Native.Nat.{ℕ, suc, _+_, _-_, _*_, _≤_, _<_}
-use mathlib.Core.Path.{_≡_, sym, ap, _∙_}
+-- Unsigned numbers of one byte: what the reader answers without looking further. Assumes nothing.
+use Prim.Native.Nat.{ℕ, _+_, _*_, _<_}
+use mathlib.Core.Path.{_≡_}
 use mathlib.Core.List.{List}
 use native.Mathlib.Omega.{arith}
-use lib.IntN.{pos, negsuc}
 use lib.ListN.{length, getD, drop}
 use lib.Seq.{drop-cons}
-use borrow.Author.Tests.{lt-ltb, le-ltb}
+use borrow.Author.Tests.{lt-ltb}
 use Rattle.leb128.specs.Got.{got}
 use Rattle.leb128.specs.Digits.{whole, digits}
-use Rattle.leb128.specs.Read.{unsigned, signed, u64At, i64At}
+use Rattle.leb128.specs.Read.{u64At}
 
 module _ (s : List ℕ) (at : ℕ) (h : at < length s) where
   one-digit : getD s at 0 < 128 → digits 0 0 (drop at s) ≡ whole 0 1 0 (getD s at 0) 1
@@ -20,15 +19,3 @@ module _ (s : List ℕ) (at : ℕ) (h : at < length s) where
   one-u64 b =
       let e : 0 + 1 * getD s at 0 ≡ getD s at 0 = omega arith in
       rw (one-digit b, e)
-
-  pub one-pos : getD s at 0 < 64 → got (pos (getD s at 0)) (at + 1) ≡ i64At s at
-  unfolding i64At
-  one-pos b =
-      let e : 0 + 1 * getD s at 0 ≡ getD s at 0 = omega arith in
-      rw (one-digit (omega arith), lt-ltb (getD s at 0) 64 b, e)
-
-  pub one-neg : 64 ≤ getD s at 0 → getD s at 0 < 128 → got (negsuc (127 - getD s at 0)) (at + 1) ≡ i64At s at
-  unfolding i64At
-  one-neg a b =
-      let e : 1 * 128 - suc (0 + 1 * getD s at 0) ≡ 127 - getD s at 0 = omega arith in
-      rw (one-digit b, le-ltb (getD s at 0) 64 a, e)

@@ -179,8 +179,8 @@ fn i64_of(at: usize, low: u64, scale: u64, prev: u8, last: u8, count: usize) -> 
     }
 }
 
-// One of any length.
-fn long_i64(s: &[u8], at: usize) -> ParsedI64
+// The i64 at a position, or its refusal.
+pub fn leb128_i64(s: &[u8], at: usize) -> ParsedI64
     ensures { λ r. ⌜ i64Of r ≡ i64At (now (s .entry)) at ⌝ }
 {
     match digits_at(s, at) {
@@ -193,22 +193,6 @@ fn long_i64(s: &[u8], at: usize) -> ParsedI64
         } => i64_of(at, low, scale, prev, last, count),
         Digits::Broken(r) => ParsedI64::Refused(r, if at < s.len() { at } else { s.len() }),
     }
-}
-
-// The i64 at a position, or its refusal.
-pub fn leb128_i64(s: &[u8], at: usize) -> ParsedI64
-    ensures { λ r. ⌜ i64Of r ≡ i64At (now (s .entry)) at ⌝ }
-{
-    if at < s.len() {
-        let b = s[at];
-        if b < 64 {
-            return ParsedI64::Number(up(wide(b)), at + 1);
-        }
-        if b < 128 {
-            return ParsedI64::Number(down(wide(127 - b)), at + 1);
-        }
-    }
-    long_i64(s, at)
 }
 
 // The u32 at a position, read as a u64 first, or its refusal.

@@ -1,71 +1,64 @@
--- `leb128::leb128_i64` meets its contract: a number of one byte, by bit 6 of it, or one of any length. Assumes nothing.
-use Rattle.leb128.proofs.Twos.{same}
+-- `leb128::leb128_i64` meets its contract. Assumes nothing.
+use mathlib.Core.Path.{_≡_, sym, ap, _∙_}
+use Prim.Native.Nat.{_+_, _≤_, min}
+use borrow.Author.Needs.{needs}
 use native.Mathlib.Omega.{arith}
-use mathlib.Core.Path.{ap, _∙_}
-use Prim.Native.Nat.{ℕ, _+_}
-use lib.IntN.{ℤ, pos, negsuc}
-use denote.Ref.{now}
-use Rattle.leb128.specs.Got.{got}
-use Rattle.leb128.proofs.Short.{one-pos, one-neg}
-use borrow.Author.Needs.{needs, sfits-of}
+use lib.ListN.{length, drop}
+use Rattle.leb128.specs.Digits.{Digits, whole, digits}
+use Rattle.leb128.specs.Answers.{digitsOf}
+use Rattle.leb128.specs.Read.{i64At}
+use Rattle.leb128.specs.Sound.{Sound}
+use Rattle.leb128.proofs.Sound.{whole-sound, whole-place}
 use Rattle.leb128.proofs.leb128_i64.Statement.{statement}
 use Rattle.leb128.proofs.leb128_i64.Tie as tie
+use Rattle.leb128.proofs.leb128_i64.Reads as reads
+use Rattle.leb128.proofs.leb128_i64.Lts as lts
 
-shared-slice-read-b : tie.Need-shared-slice-read-b
-shared-slice-read-b c = search needs
+digits-at-requires : tie.Need-digits-at-requires
+digits-at-requires c κs = search needs
 
-wide-requires : tie.Need-wide-requires
-wide-requires c κs = search needs
+enum-known-low : tie.Need-enum-known-low
+enum-known-low c = search needs
 
-up-requires : tie.Need-up-requires
-up-requires c κs = omega (arith, c .wide .ensures, c .before .if2 .taken)
+found : (c : tie.After-low) → let v = c .low .given .0 in whole (v .0) (v .1 .0) (v .1 .1 .0) (v .1 .1 .1 .0) (v .1 .1 .1 .1 .0) ≡ digits 0 0 (drop (c .before .before .before .before .args .at) (c .before .before .before .before .args .s .now))
+found c = ap digitsOf (sym (c .low .given .1)) ∙ c .before .before .digits-at .ensures
 
-add-t11 : tie.Need-add-t11
-add-t11 c = search needs
+sound : (c : tie.After-low) → let v = c .low .given .0 in let a = c .before .before .before .before .args in
+    Sound (v .0) (v .1 .0) (v .1 .1 .1 .0) (v .1 .1 .1 .1 .0) × (a .at + v .1 .1 .1 .1 .0 ≤ length (a .s .now))
+sound c = whole-sound _ _ (λ i. c .before .before .before .shared-slice-known .given i .fits) _ _ _ _ _ (found c)
+
+i64-of-requires : tie.Need-i64-of-requires
+i64-of-requires c κs = (sound (c .before) .0, omega (arith, sound (c .before)))
+
+enum-known-r : tie.Need-enum-known-r
+enum-known-r c = search needs
 
 returns : tie.Need-returns
-returns c =
-    let a = c .before .before .before .before .before .before .args in
-    ap (λ (x : ℤ). got x (a .at + 1)) (same (c .up .result) (sfits-of (c .up .ok)) ∙ c .up .ensures) ∙ ap (λ (n : ℕ). got (pos n) (a .at + 1)) (c .before .wide .ensures)
-    ∙ one-pos (now (a .s)) (a .at) (c .before .before .before .before .if1 .taken) (c .before .before .if2 .taken)
-
-sub-wide : tie.Need-sub-wide
-sub-wide c = search needs
-
-wide-requires-2 : tie.Need-wide-requires-2
-wide-requires-2 c κs = search needs
-
-down-requires : tie.Need-down-requires
-down-requires c κs = omega (arith, c .wide2 .ensures)
-
-add-t15 : tie.Need-add-t15
-add-t15 c = search needs
+unfolding i64At
+returns c = c .i64-of .ensures ∙ rw (← found (c .before .before), whole-place _ _ (λ i. c .before .before .before .before .before .shared-slice-known .given i .fits) _ _ _ _ _ (found (c .before .before)))
 
 returns-2 : tie.Need-returns-2
+unfolding i64At
 returns-2 c =
-    let a = c .before .before .before .before .before .before .before .args in
-    ap (λ (x : ℤ). got x (a .at + 1)) (same (c .down .result) (sfits-of (c .down .ok)) ∙ c .down .ensures) ∙ ap (λ (n : ℕ). got (negsuc n) (a .at + 1)) (c .before .wide2 .ensures)
-    ∙ one-neg (now (a .s)) (a .at) (c .before .before .before .before .before .if1 .taken) (c .before .before .before .if2 .left) (c .before .before .if3 .taken)
-
-long-i64-requires : tie.Need-long-i64-requires
-long-i64-requires c κs = search needs
+    let a = c .before .before .before .before .before .before .args in
+    let m : min (a .at) (length (a .s .now)) ≡ a .at = omega arith in
+    rw (← (ap digitsOf (sym (c .before .before .r .given .1)) ∙ c .before .before .before .before .digits-at .ensures), m)
 
 returns-3 : tie.Need-returns-3
-returns-3 c = c .long-i64 .ensures
+unfolding i64At
+returns-3 c =
+    let a = c .before .before .before .before .before .before .args in
+    let m : min (a .at) (length (a .s .now)) ≡ length (a .s .now) = omega arith in
+    rw (← (ap digitsOf (sym (c .before .before .r .given .1)) ∙ c .before .before .before .before .digits-at .ensures), m)
 
 pub leb128-i64-spec : {M : Type 1} → statement M
 leb128-i64-spec =
     tie.close
     (tie.spec
-    shared-slice-read-b
-    wide-requires
-    up-requires
-    add-t11
+    digits-at-requires
+    enum-known-low
+    i64-of-requires
+    enum-known-r
     returns
-    sub-wide
-    wide-requires-2
-    down-requires
-    add-t15
     returns-2
-    long-i64-requires
     returns-3)
