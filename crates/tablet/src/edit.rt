@@ -1,0 +1,249 @@
+// tablet edit FILE COLUMN START END READING.. --to OUT: a range of a column's readings replaced, in a new block.
+use crate::apply;
+use crate::apply::Edited;
+use crate::apply::Range;
+use crate::column;
+use crate::column::Column;
+use crate::files;
+use crate::files::Got;
+use crate::given;
+use crate::help;
+use crate::kinds;
+use crate::kinds::Kind;
+use crate::load;
+use crate::pen;
+use crate::pen::Desk;
+use crate::pen::Pen;
+use crate::rooms;
+use crate::text::after;
+use crate::text::between;
+use crate::words;
+use encoding::Answer;
+
+// What is edited: the range, how many bytes and readings its column has, and whether a file that is there may be replaced.
+struct Wanted {
+    range: Range,
+    len: usize,
+    old: usize,
+    over: bool,
+}
+
+// How many readings a column has; 0 where it does not read, which the edit itself refuses.
+fn count_of(part: &[u8], kind: Kind) -> usize {
+    match load::count(part, kind) {
+        Answer::Done(n) => n as usize,
+        Answer::Refused(_, _) => 0,
+    }
+}
+
+// How many readings the edited list has, of so many old and new ones.
+fn edited_len(old: usize, r: Range, new: usize) -> usize {
+    let kept = plus(r.start, new);
+    if old < r.end {
+        return kept;
+    }
+    plus(kept, old - r.end)
+}
+
+fn plus(a: usize, b: usize) -> usize {
+    if b <= usize::MAX - a {
+        a + b
+    } else {
+        usize::MAX
+    }
+}
+
+// What was written, in words: its length, and how many readings the column has now. A list of absent readings alone is written as
+// nothing, and that is said.
+fn say_done(p: Pen, part: &[u8], kind: Kind, meant: usize) -> Pen {
+    let n = count_of(part, kind);
+    let q = pen::text(pen::count(pen::text(p, b" has "), n), b" readings\n");
+    if n == meant {
+        return q;
+    }
+    say_lost(q, meant)
+}
+
+pub fn say_lost(p: Pen, meant: usize) -> Pen {
+    let q = pen::count(pen::text(p, b"  note: all "), meant);
+    pen::text(
+        q,
+        b" readings of the list are absent; such a list is written as nothing and reads back as empty\n",
+    )
+}
+
+fn say_written(to: &[u8], block: &[u8], position: usize, meant: usize, desk: Desk) -> bool {
+    let p = pen::text(pen::text(pen::on(desk.out), to), b": ");
+    let q = pen::text(pen::count(p, block.len()), b" bytes, column ");
+    match column::locate(block, position) {
+        Column::Found(spec, a, e) => {
+            let r = say_done(
+                pen::count(q, position),
+                between(block, a, e),
+                kinds::of_spec(spec),
+                meant,
+            );
+            pen::finish(r, desk)
+        }
+        Column::Refused(_, _) => false,
+    }
+}
+
+// Saves what an edit came to.
+fn finish(
+    path: &[u8],
+    e: Edited,
+    w: Wanted,
+    out: &[u8],
+    new: usize,
+    to: &[u8],
+    desk: Desk,
+) -> bool {
+    let r = w.range;
+    if e.number != 0 {
+        column::say_refused(path, r.position, e.number, e.place, w.len, desk);
+        return false;
+    }
+    let block = between(out, 0, e.len);
+    if files::save(to, block, w.over, desk) {
+        return say_written(to, block, r.position, edited_len(w.old, r, new), desk);
+    }
+    false
+}
+
+fn edit_with(
+    path: &[u8],
+    block: &[u8],
+    w: Wanted,
+    kind: Kind,
+    new: &[u64],
+    present: &[u8],
+    to: &[u8],
+    desk: Desk,
+) -> bool {
+    let mut out = rooms::block();
+    let e = apply::apply(block, w.range, kind, new, present, &mut out);
+    finish(path, e, w, &out, new.len(), to, desk)
+}
+
+// The edit of a column whose kind is known.
+fn edit_column(
+    path: &[u8],
+    block: &[u8],
+    w: Wanted,
+    kind: Kind,
+    text: &[u8],
+    to: &[u8],
+    desk: Desk,
+) -> bool {
+    let mut new = rooms::unsigned();
+    let mut present = rooms::flags();
+    let n = given::readings(text, kind, &mut new, &mut present, desk);
+    if n == given::NONE {
+        return false;
+    }
+    edit_with(
+        path,
+        block,
+        w,
+        kind,
+        rooms::front(&new, n),
+        between(&present, 0, n),
+        to,
+        desk,
+    )
+}
+
+fn edit_block(
+    path: &[u8],
+    block: &[u8],
+    r: Range,
+    over: bool,
+    text: &[u8],
+    to: &[u8],
+    desk: Desk,
+) -> bool {
+    match column::locate(block, r.position) {
+        Column::Found(spec, a, e) => {
+            let kind = kinds::of_spec(spec);
+            let part = between(block, a, e);
+            let w = Wanted {
+                range: r,
+                len: part.len(),
+                old: count_of(part, kind),
+                over,
+            };
+            edit_column(path, block, w, kind, text, to, desk)
+        }
+        Column::Refused(number, place) => {
+            column::say_not_found(path, block, r.position, number, place, desk);
+            false
+        }
+    }
+}
+
+fn edit_file(path: &[u8], r: Range, over: bool, text: &[u8], to: &[u8], desk: Desk) -> bool {
+    let mut block = rooms::block();
+    match files::read(path, &mut block, desk) {
+        Got::Bytes(n) => edit_block(path, between(&block, 0, n), r, over, text, to, desk),
+        Got::TooLarge => false,
+        Got::Failed(_) => false,
+    }
+}
+
+// The three numbers of an edit.
+fn range_of(line: &[u8], desk: Desk) -> Range {
+    Range {
+        position: column::place(words::word(line, 2), b"a column's position", desk),
+        start: column::place(words::word(line, 3), b"START", desk),
+        end: column::place(words::word(line, 4), b"END", desk),
+    }
+}
+
+fn is_whole(r: Range) -> bool {
+    if r.position == column::MISSING {
+        return false;
+    }
+    if r.start == column::MISSING {
+        return false;
+    }
+    r.end != column::MISSING
+}
+
+// The words from 5 up to the option are readings, and the word behind it is the new file.
+fn edit_to(line: &[u8], option: usize, over: bool, desk: Desk) -> bool {
+    let r = range_of(line, desk);
+    if !is_whole(r) {
+        return false;
+    }
+    let text = between(line, words::start(line, 5), words::start(line, option));
+    let to = words::word(line, after(option));
+    edit_file(words::word(line, 1), r, over, text, to, desk)
+}
+
+fn wrong(desk: Desk) -> bool {
+    help::wrong(
+        b"edit FILE COLUMN START END READING.. --to OUT [--over]",
+        desk,
+    )
+}
+
+pub fn run(line: &[u8], desk: Desk) -> bool {
+    let all = words::count(line);
+    let option = words::option(line, 5);
+    if all <= option {
+        return wrong(desk);
+    }
+    if !check::same(words::word(line, option), b"--to") {
+        return wrong(desk);
+    }
+    if all - option == 2 {
+        return edit_to(line, option, false, desk);
+    }
+    if all - option == 3 {
+        if check::same(words::word(line, after(after(option))), b"--over") {
+            return edit_to(line, option, true, desk);
+        }
+    }
+    wrong(desk)
+}

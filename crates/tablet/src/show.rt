@@ -1,0 +1,142 @@
+// tablet show FILE: the table, a row a column.
+use crate::column;
+use crate::files;
+use crate::files::Got;
+use crate::help;
+use crate::kinds;
+use crate::kinds::Kind;
+use crate::load;
+use crate::pen;
+use crate::pen::Desk;
+use crate::pen::Pen;
+use crate::refusals;
+use crate::rooms;
+use crate::text::between;
+use crate::words;
+use encoding::Answer;
+
+// What is known while rows are written: the pen, and how many columns do not read.
+struct Shown {
+    pen: Pen,
+    bad: usize,
+}
+
+fn say_head(p: Pen) -> Pen {
+    let q = pen::padded(pen::padded(p, b"position", 10), b"specification", 15);
+    let r = pen::padded(pen::padded(q, b"id", 11), b"type", 16);
+    pen::text(pen::padded(r, b"bytes", 8), b"readings\n")
+}
+
+fn say_spec(p: Pen, spec: u32) -> Pen {
+    let q = pen::hex(pen::text(p, b"0x"), spec as u64);
+    pen::blanks(q, pen::short_of(hex_digits(spec), 13))
+}
+
+// How many hex digits a specification is shown with, at least 2.
+pub fn hex_digits(spec: u32) -> usize {
+    let mut room = [0u8; 16];
+    io::hex(spec as u64, 2, &mut room)
+}
+
+// A row up to its readings.
+fn say_row(p: Pen, position: usize, spec: u32, len: usize) -> Pen {
+    let q = say_spec(pen::padded_number(p, position as u64, 10), spec);
+    let r = pen::padded_number(q, kinds::id(spec), 11);
+    pen::padded_number(kinds::say(r, spec, 16), len as u64, 8)
+}
+
+// How many readings a column has, or the refusal in words.
+fn say_readings(p: Pen, part: &[u8], kind: Kind) -> Shown {
+    if !kinds::is_served(kind) {
+        return Shown {
+            pen: pen::text(p, b"not read\n"),
+            bad: 0,
+        };
+    }
+    match load::count(part, kind) {
+        Answer::Done(n) => Shown {
+            pen: pen::text(pen::number(p, n), b"\n"),
+            bad: 0,
+        },
+        Answer::Refused(number, place) => Shown {
+            pen: pen::text(refusals::say(p, number, place, part.len()), b"\n"),
+            bad: 1,
+        },
+    }
+}
+
+fn show_column(p: Pen, block: &[u8], position: usize) -> Shown {
+    match column::locate(block, position) {
+        column::Column::Found(spec, start, end) => say_readings(
+            say_row(p, position, spec, pen::short_of(start, end)),
+            between(block, start, end),
+            kinds::of_spec(spec),
+        ),
+        column::Column::Refused(number, place) => Shown {
+            pen: refusals::say(p, number, place, block.len()),
+            bad: 1,
+        },
+    }
+}
+
+fn show_columns(p: Pen, block: &[u8], rows: usize) -> Shown {
+    let mut q = p;
+    let mut bad = 0;
+    let mut i = 0;
+    while i < rows {
+        let s = show_column(q, block, i);
+        let next = s.pen;
+        q = next;
+        bad = plus(bad, s.bad);
+        i += 1;
+    }
+    Shown { pen: q, bad }
+}
+
+pub fn plus(a: usize, b: usize) -> usize {
+    if b <= usize::MAX - a {
+        a + b
+    } else {
+        usize::MAX
+    }
+}
+
+// A note where columns do not read.
+fn judge(path: &[u8], s: Shown, desk: Desk) -> bool {
+    if s.bad == 0 {
+        return pen::finish(s.pen, desk);
+    }
+    let p = pen::count(files::about(path, desk), s.bad);
+    pen::text(p, b" of its columns do not read\n");
+    false
+}
+
+fn show_block(path: &[u8], block: &[u8], desk: Desk) -> bool {
+    let o = raw_column::read_table(block);
+    if o.number != 0 {
+        column::say_table_refused(path, block, o.number, o.place, desk);
+        return false;
+    }
+    let t = o.table;
+    judge(
+        path,
+        show_columns(say_head(pen::on(desk.out)), block, t.rows),
+        desk,
+    )
+}
+
+fn show_file(path: &[u8], desk: Desk) -> bool {
+    let mut block = rooms::block();
+    match files::read(path, &mut block, desk) {
+        Got::Bytes(n) => show_block(path, between(&block, 0, n), desk),
+        Got::TooLarge => false,
+        Got::Failed(_) => false,
+    }
+}
+
+pub fn run(line: &[u8], desk: Desk) -> bool {
+    if words::count(line) != 2 {
+        return help::wrong(b"show FILE", desk);
+    }
+    show_file(words::word(line, 1), desk)
+}

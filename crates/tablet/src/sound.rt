@@ -1,0 +1,131 @@
+// tablet check FILE..: one line a file, for scripts.
+use crate::column;
+use crate::column::Column;
+use crate::files;
+use crate::files::Got;
+use crate::help;
+use crate::kinds;
+use crate::load;
+use crate::pen;
+use crate::pen::Desk;
+use crate::pen::Pen;
+use crate::refusals;
+use crate::rooms;
+use crate::text::between;
+use crate::words;
+use encoding::Answer;
+
+// A line so far, and whether the file is sound so far.
+struct Line {
+    pen: Pen,
+    sound: bool,
+}
+
+// A refusal in a line: of a column, with its position.
+fn with_refusal(l: Line, position: usize, number: u8, place: usize, len: usize) -> Line {
+    let p = if l.sound {
+        l.pen
+    } else {
+        pen::text(l.pen, b"; ")
+    };
+    let q = pen::count(pen::text(p, b"column "), position);
+    Line {
+        pen: refusals::say(pen::text(q, b": "), number, place, len),
+        sound: false,
+    }
+}
+
+fn judge_part(l: Line, position: usize, spec: u32, part: &[u8]) -> Line {
+    let kind = kinds::of_spec(spec);
+    if !kinds::is_served(kind) {
+        return l;
+    }
+    match load::count(part, kind) {
+        Answer::Done(_) => l,
+        Answer::Refused(number, place) => with_refusal(l, position, number, place, part.len()),
+    }
+}
+
+fn judge_column(l: Line, block: &[u8], position: usize) -> Line {
+    match column::locate(block, position) {
+        Column::Found(spec, start, end) => {
+            judge_part(l, position, spec, between(block, start, end))
+        }
+        Column::Refused(number, place) => with_refusal(l, position, number, place, 0),
+    }
+}
+
+fn judge_columns(p: Pen, block: &[u8], rows: usize) -> Line {
+    let mut l = Line {
+        pen: p,
+        sound: true,
+    };
+    let mut i = 0;
+    while i < rows {
+        l = judge_column(l, block, i);
+        i += 1;
+    }
+    l
+}
+
+fn end_line(l: Line, rows: usize) -> bool {
+    if l.sound {
+        let p = pen::count(pen::text(l.pen, b"sound, "), rows);
+        pen::text(p, b" columns\n");
+        return true;
+    }
+    pen::text(l.pen, b"\n");
+    false
+}
+
+fn judge_block(p: Pen, block: &[u8]) -> bool {
+    let o = raw_column::read_table(block);
+    if o.number != 0 {
+        pen::text(
+            refusals::say_of_table(p, o.number, o.place, block.len()),
+            b"\n",
+        );
+        return false;
+    }
+    let t = o.table;
+    end_line(judge_columns(p, block, t.rows), t.rows)
+}
+
+fn judge_file(path: &[u8], desk: Desk) -> bool {
+    let mut block = rooms::block();
+    match files::read(path, &mut block, desk) {
+        Got::Bytes(n) => {
+            let p = pen::text(pen::text(pen::on(desk.out), path), b": ");
+            judge_block(p, between(&block, 0, n))
+        }
+        Got::TooLarge => false,
+        Got::Failed(_) => false,
+    }
+}
+
+fn judge_files(line: &[u8], all: usize, desk: Desk) -> usize {
+    let mut bad = 0;
+    let mut i = 1;
+    while i < all {
+        if !judge_file(words::word(line, i), desk) {
+            bad += 1;
+        }
+        i += 1;
+    }
+    bad
+}
+
+pub fn run(line: &[u8], desk: Desk) -> bool {
+    let all = words::count(line);
+    if all < 2 {
+        return help::wrong(b"check FILE..", desk);
+    }
+    let bad = judge_files(line, all, desk);
+    if bad == 0 {
+        return true;
+    }
+    let p = pen::count(pen::text(pen::on(desk.notes), b"tablet: "), bad);
+    let q = pen::count(pen::text(p, b" of "), pen::short_of(1, all));
+    pen::text(q, b" files are not sound\n");
+    false
+}
