@@ -1,4 +1,9 @@
 // A column's readings, of every kind as the numbers by which `numbers` keeps them.
+ghost use mathlib.Core.Path.{_≡_};
+ghost use Prim.Native.Nat.{_<_, _^_};
+ghost use lib.Signed.{mag};
+ghost use Rattle.delta.specs.Sofar.{sumOf};
+ghost use Rattle.tablet.specs.Kept.{keptOf};
 use crate::kinds::Kind;
 use crate::numbers::HALF;
 use crate::rooms;
@@ -14,17 +19,28 @@ pub fn count(part: &[u8], kind: Kind) -> Answer {
     }
 }
 
+// x where it is not negative, else -(x + 1).
+fn magnitude(x: i64) -> u64
+    ensures { λ r. ⌜ (r ≡ mag x) × (r < 2 ^ 63) ⌝ }
+{
+    if x < 0 { !x as u64 } else { x as u64 }
+}
+
 // A signed number as it is kept.
-fn kept(x: i64) -> u64 {
+fn kept(x: i64) -> u64
+    ensures { λ r. ⌜ r ≡ keptOf x ⌝ }
+{
+    let m = magnitude(x);
     if x < 0 {
-        HALF - 1 - (!x as u64)
-    } else {
-        HALF + x as u64
+        return HALF - 1 - m;
     }
+    HALF + m
 }
 
 // The signed number that is kept as n.
-fn meant(n: u64) -> i64 {
+fn meant(n: u64) -> i64
+    ensures { λ r. ⌜ r ≡ sumOf n ⌝ }
+{
     if n < HALF {
         return !((HALF - 1 - n) as i64);
     }

@@ -271,7 +271,7 @@ pub fn run(line: &[u8], desk: Desk) -> bool {
     if end == all {
         return make(line, end - 2, false, desk);
     }
-    if end + 1 == all {
+    if after(end) == all {
         if check::same(words::word(line, end), b"--over") {
             return make(line, end - 2, true, desk);
         }

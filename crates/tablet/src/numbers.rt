@@ -1,4 +1,6 @@
 // Numbers and readings as text. A signed reading z is kept as z + 2^63, so that readings of every kind are one kind of number, in their order.
+ghost use mathlib.Core.Path.{_≡_};
+ghost use Rattle.tablet.specs.Text.{withDigit, decimalOf, raisedOf, loweredOf};
 use crate::kinds;
 use crate::kinds::Kind;
 use crate::pen;
@@ -23,7 +25,9 @@ pub enum Reading {
 }
 
 // The number with one digit more.
-fn with_digit(value: u64, b: u8) -> Decimal {
+fn with_digit(value: u64, b: u8) -> Decimal
+    ensures { λ r. ⌜ r ≡ withDigit value b ⌝ }
+{
     if b < 48 {
         return Decimal::NoNumber;
     }
@@ -42,7 +46,9 @@ fn with_digit(value: u64, b: u8) -> Decimal {
 }
 
 // The number that digits stand for.
-pub fn decimal_of(s: &[u8]) -> Decimal {
+pub fn decimal_of(s: &[u8]) -> Decimal
+    ensures { λ r. ⌜ r ≡ decimalOf (now (s .entry)) ⌝ }
+{
     if s.len() == 0 {
         return Decimal::NoNumber;
     }
@@ -66,7 +72,9 @@ pub fn decimal_of(s: &[u8]) -> Decimal {
 }
 
 // A reading of 0 or more, as it is kept.
-fn raised(d: Decimal) -> Reading {
+fn raised(d: Decimal) -> Reading
+    ensures { λ r. ⌜ r ≡ raisedOf d ⌝ }
+{
     match d {
         Decimal::Value(n) => {
             if n < HALF {
@@ -81,7 +89,9 @@ fn raised(d: Decimal) -> Reading {
 }
 
 // A reading below 0, as it is kept.
-fn lowered(d: Decimal) -> Reading {
+fn lowered(d: Decimal) -> Reading
+    ensures { λ r. ⌜ r ≡ loweredOf d ⌝ }
+{
     match d {
         Decimal::Value(n) => {
             if n <= HALF {

@@ -1,4 +1,8 @@
 // What a picture of readings shows: the scale of depths, and for each place across the range of the readings that it stands for.
+ghost use mathlib.Core.Path.{_≡_};
+ghost use Prim.Native.Nat.{_+_, _-_, _*_, _/_, _^_, _<_, _≤_, min};
+ghost use lib.ListN.{length};
+ghost use Rattle.tablet.specs.Picture.{Covers, Grown};
 use crate::kinds;
 use crate::kinds::Kind;
 use crate::numbers::HALF;
@@ -29,59 +33,75 @@ fn nothing() -> Stretch {
     }
 }
 
-fn after(i: usize) -> usize {
+fn after(i: usize) -> usize
+    ensures { λ r. ⌜ 0 < r ⌝ }
+{
     if i < usize::MAX { i + 1 } else { i }
 }
 
 // A stretch with one present reading more.
-fn with_value(s: Stretch, value: u64) -> Stretch {
-    let low = if s.here == 0 {
-        value
-    } else {
-        least(s.low, value)
-    };
-    let high = if s.here == 0 {
-        value
-    } else {
-        greatest(s.high, value)
-    };
+fn with_value(s: Stretch, value: u64) -> Stretch
+    ensures { λ r. ⌜ Grown s value 1 r ⌝ }
+{
+    if s.here == 0 {
+        return Stretch {
+            low: value,
+            high: value,
+            here: 1,
+            gone: s.gone,
+        };
+    }
     Stretch {
-        low,
-        high,
+        low: least(s.low, value),
+        high: greatest(s.high, value),
         here: after(s.here),
         gone: s.gone,
     }
 }
 
-fn least(a: u64, b: u64) -> u64 {
+fn least(a: u64, b: u64) -> u64
+    ensures { λ r. ⌜ (r ≤ a) × (r ≤ b) ⌝ }
+{
     if a < b { a } else { b }
 }
 
-fn greatest(a: u64, b: u64) -> u64 {
+fn greatest(a: u64, b: u64) -> u64
+    ensures { λ r. ⌜ (a ≤ r) × (b ≤ r) ⌝ }
+{
     if a < b { b } else { a }
 }
 
-fn with_absent(mut s: Stretch) -> Stretch {
-    s.gone = after(s.gone);
-    s
+fn with_absent(s: Stretch) -> Stretch
+    ensures { λ r. ⌜ (r .low ≡ s .low) × (r .high ≡ s .high) × (r .here ≡ s .here) ⌝ }
+{
+    Stretch {
+        low: s.low,
+        high: s.high,
+        here: s.here,
+        gone: after(s.gone),
+    }
 }
 
-fn with_reading(s: Stretch, value: u64, here: u8) -> Stretch {
+fn with_reading(s: Stretch, value: u64, here: u8) -> Stretch
+    ensures { λ r. ⌜ Grown s value here r ⌝ }
+{
     if here == 0 {
         return with_absent(s);
     }
     with_value(s, value)
 }
 
-// The readings from a up to e.
-pub fn stretch_of(values: &[u64], present: &[u8], a: usize, e: usize) -> Stretch {
-    let mut s = nothing();
+// The readings from a up to e. A list that has no such part is not looked at.
+pub fn stretch_of(values: &[u64], present: &[u8], a: usize, e: usize) -> Stretch
+    ensures { λ r. ⌜ (e ≤ length (now (values .entry)) → e ≤ length (now (present .entry)) → Covers (now (values .entry)) (now (present .entry)) a e r) ⌝ }
+{
     if values.len() < e {
-        return s;
+        return nothing();
     }
     if present.len() < e {
-        return s;
+        return nothing();
     }
+    let mut s = nothing();
     let mut i = a;
     while i < e {
         s = with_reading(s, values[i], present[i]);
@@ -90,8 +110,11 @@ pub fn stretch_of(values: &[u64], present: &[u8], a: usize, e: usize) -> Stretch
     s
 }
 
-// The least power of ten that more than a tenth of `need` reaches.
-fn power(need: u64) -> u64 {
+// The greatest power of ten that is not above `need`.
+fn power(need: u64) -> u64
+    requires { ⌜ 0 < need ⌝ }
+    ensures { λ r. ⌜ (0 < r) × (r ≤ need) × (need < 10 * r) ⌝ }
+{
     let mut p: u64 = 1;
     while p <= need / 10 {
         p = p * 10;
@@ -99,8 +122,10 @@ fn power(need: u64) -> u64 {
     p
 }
 
-// A step of 1, 2 or 5 times a power of ten, with which `span` takes at most 14 steps.
-pub fn step_for(span: u64) -> u64 {
+// A step of 1, 2 or 5 times a power of ten, of which fourteen are more than `span`.
+pub fn step_for(span: u64) -> u64
+    ensures { λ r. ⌜ (0 < r) × (span < 14 * r) ⌝ }
+{
     let need = span / 14 + 1;
     let p = power(need);
     if need <= p {
@@ -116,7 +141,9 @@ pub fn step_for(span: u64) -> u64 {
 }
 
 // The multiple of the step, counted from zero, at or below the least depth.
-fn base_for(low: u64, step: u64, zero: u64) -> u64 {
+fn base_for(low: u64, step: u64, zero: u64) -> u64
+    ensures { λ r. ⌜ (r ≤ low) × (0 < step → low < r + step) ⌝ }
+{
     if step == 0 {
         return low;
     }
@@ -138,7 +165,9 @@ fn zero_of(kind: Kind) -> u64 {
 }
 
 // How many readings a place across stands for, where n are to fit `width` places.
-pub fn per_place(n: usize, width: usize) -> usize {
+pub fn per_place(n: usize, width: usize) -> usize
+    ensures { λ r. ⌜ (0 < r) × (0 < width → n ≤ r * width) ⌝ }
+{
     if width == 0 {
         return 1;
     }
@@ -149,7 +178,9 @@ pub fn per_place(n: usize, width: usize) -> usize {
 }
 
 // How many places there are.
-fn places_for(n: usize, per: usize) -> usize {
+fn places_for(n: usize, per: usize) -> usize
+    ensures { λ r. ⌜ (0 < per → n ≤ r * per) ⌝ }
+{
     if per == 0 {
         return 0;
     }
@@ -160,7 +191,9 @@ fn places_for(n: usize, per: usize) -> usize {
 }
 
 // The row of a depth.
-pub fn row_of(value: u64, base: u64, step: u64) -> usize {
+pub fn row_of(value: u64, base: u64, step: u64) -> usize
+    ensures { λ r. ⌜ (0 < step → r ≡ (value - base) / step) ⌝ }
+{
     if step == 0 {
         return 0;
     }
@@ -200,7 +233,9 @@ pub fn apart(low: u64, high: u64) -> u64 {
 }
 
 // The depth at which a row begins.
-pub fn depth_of(row: usize, base: u64, step: u64) -> u64 {
+pub fn depth_of(row: usize, base: u64, step: u64) -> u64
+    ensures { λ r. ⌜ (base + row * step < 2 ^ 64 → r ≡ base + row * step) ⌝ }
+{
     let r = row as u64;
     if step == 0 {
         return base;
@@ -212,7 +247,9 @@ pub fn depth_of(row: usize, base: u64, step: u64) -> u64 {
 }
 
 // The first reading of a place, or n where the places are over.
-pub fn first_of(place: usize, per: usize, n: usize) -> usize {
+pub fn first_of(place: usize, per: usize, n: usize) -> usize
+    ensures { λ r. ⌜ (0 < per → r ≡ min (place * per) n) ⌝ }
+{
     if per == 0 {
         return n;
     }

@@ -11,6 +11,7 @@ use crate::pen::Desk;
 use crate::pen::Pen;
 use crate::refusals;
 use crate::rooms;
+use crate::text::after;
 use crate::text::between;
 use crate::words;
 use encoding::Answer;
@@ -108,7 +109,7 @@ fn judge_files(line: &[u8], all: usize, desk: Desk) -> usize {
     let mut i = 1;
     while i < all {
         if !judge_file(words::word(line, i), desk) {
-            bad += 1;
+            bad = after(bad);
         }
         i += 1;
     }
