@@ -1,4 +1,5 @@
 pub mod Back
+pub mod Clean
 pub mod Counting
 pub mod Decoding
 pub mod Examples

@@ -14,8 +14,10 @@ use Rattle.encoding.specs.Given.{badFlag}
 use Rattle.raw_column.specs.Table.{Tab, tab, faulty, parse}
 use Rattle.raw_column.specs.Columns.{newBlock}
 use Rattle.raw_column.specs.Part.{startOf}
+use Rattle.raw_column.specs.Rows.{noTable, opened}
 use Rattle.slots.specs.Splice.{spliced, inSlots}
 use Rattle.splice.specs.Kind.{Kind}
+use Rattle.splice.specs.declared.Spliced.{Spliced}
 
 -- what an edit comes to: stopped, and nothing is changed; late, with 7 or 10, and the slots hold the new list; accepted, with the new block.
 -- `old` is the old list's length
@@ -27,6 +29,10 @@ pub data Edited (A : Type 0) : Type 0 where
 -- "The end counts as the list's length when it is larger, as in the Rust."
 abbrev pub endIn : ℕ → ℕ → ℕ
 endIn end old = min end old
+
+-- refusal 17: is the specification's type one from low to high?
+abbrev pub serves : ℕ → ℕ → ℕ → Bool
+serves low high spec = leb low (typeOf spec) && leb (typeOf spec) high
 
 -- refusal 8 of an edit: the lengths of the slots and of the new list first, then the first bad byte of the new readings
 abbrev pub flagsIn : Option ℕ → Answer
@@ -69,7 +75,7 @@ module _ {A : Type 0} (K : Kind A) where
   -- 17 and 18 for the end
   abbrev pub editRow : List ℕ → ℕ → ℕ → ℕ → Answer → List A → ℕ → ℕ → (List ℕ → List ℕ) → Edited A
   editRow column spec start end given new slots room block =
-      cond (leb (K .low) (typeOf spec) && leb (typeOf spec) (K .high))
+      cond (serves (K .low) (K .high) spec)
       (cond (ltb end start) (stop 18 0) (editColumn column start end given new slots room block))
       (stop 17 0)
 
@@ -84,6 +90,18 @@ module _ {A : Type 0} (K : Kind A) where
 
   unfoldable pub edited : List ℕ → ℕ → ℕ → ℕ → Answer → List A → ℕ → ℕ → Edited A
   edited s position start end given new slots room = editIn s position start end given new slots room (parse s)
+
+-- what is answered: the new block's length and its table, as anyone reads it; or the refusal with a table of no rows
+abbrev pub refusal : ℕ → ℕ → Spliced
+refusal number place = record { table = noTable; number = number; place = place; len = 0 }
+
+abbrev pub acceptance : List ℕ → Spliced
+acceptance block = record { table = opened (parse block) .table; number = 0; place = 0; len = length block }
+
+abbrev pub answered : {A : Type 0} → Edited A → Spliced
+answered (stop number place) = refusal number place
+answered (late number place old xs) = refusal number place
+answered (accepted old xs block) = acceptance block
 
 -- what is left behind: a slot slice that holds f of each reading (z where nothing is any more), and the output
 abbrev pub slotsLeft : {A B : Type 0} → B → (A → B) → Edited A → List B → List B

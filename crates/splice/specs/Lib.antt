@@ -1,3 +1,6 @@
+pub mod Contract
 pub mod Edit
 pub mod Kind
 pub mod Kinds
+pub mod Ready
+pub mod Steps

@@ -1,0 +1,353 @@
+-- The checks as the code makes them, over the kind of column: one law for each way out, and that they are those of an edit. Assumes nothing.
+use Prim.Native.Nat.{ℕ, _+_, _-_, _≤_, _<_, max, min}
+use mathlib.Core.Path.{_≡_, refl, sym, ap, _∙_, subst}
+use mathlib.Core.List.{List}
+use mathlib.Core.Option.{Option, none, some}
+use mathlib.Core.Bool.{Bool, true, false, cond, _&&_}
+use native.Mathlib.Omega.{arith}
+use lib.Dec.{ltb, leb, eqb}
+use lib.ListN.{length, getD, take, drop}
+use lib.Seq.{getD-take}
+use borrow.Author.Tests.{ltb-true, ltb-false, lt-ltb, le-ltb, leb-true, leb-false, le-leb, lt-leb, eqb-true, eq-eqb, ne-eqb}
+use Rattle.leb128.specs.Answer.{Answer, done, refused}
+use Rattle.column_specification.specs.Specification.{typeOf}
+use Rattle.encoding.specs.Limit.{limit}
+use Rattle.encoding.specs.Given.{badFlag, flagsJudged, listJudged}
+use Rattle.encoding.specs.Walk.{Trace, Ending, sound, fault, outcomeOf, outcome}
+use Rattle.encoding.specs.Column.{trace}
+use Rattle.rle.specs.Word.{u64E}
+use Rattle.delta.specs.Sums.{deltaTrace}
+use Rattle.boolean.specs.Turns.{boolTrace}
+use Rattle.raw_column.specs.Table.{Tab, tab, faulty, sum, parse}
+use Rattle.raw_column.specs.Columns.{newBlock}
+use Rattle.raw_column.specs.Part.{startOf}
+use Rattle.raw_column.specs.declared.Opened.{Opened}
+use Rattle.raw_column.proofs.Opening.{Open, specsOf, lensOf, rows-long, len-at, sum-to}
+use Rattle.raw_column.proofs.Tables.{table-fills}
+use Rattle.slots.specs.Splice.{spliced}
+use Rattle.slots.proofs.Splicing.{length-spliced}
+use Rattle.splice.specs.Kind.{Kind}
+use Rattle.splice.specs.Edit.{Edited, stop, endIn, serves, flagsIn, givenOptional, finished, editList, readBy, editColumn, editIn, edited}
+use Rattle.splice.specs.Steps.{rowIn, rowFor, countAs, resultLength, resultJudged, onResult, onCount, onGiven, onRow, planned}
+use Rattle.splice.specs.Ready.{HasRow, Ready}
+use Rattle.splice.specs.declared.Row.{Row}
+use Rattle.splice.specs.declared.Row.the-variants as row
+use Rattle.splice.specs.declared.Plan.{Plan}
+use Rattle.splice.specs.declared.Plan.the-variants as plan
+
+-- ---- the type
+pub serves-not : (low high spec : ℕ) → typeOf spec < low → serves low high spec ≡ false
+serves-not low high spec h = rw (lt-leb low (typeOf spec) h)
+
+pub serves-to : (low high spec : ℕ) → low ≤ typeOf spec → serves low high spec ≡ leb (typeOf spec) high
+serves-to low high spec h = rw (le-leb low (typeOf spec) h)
+
+-- ---- the row
+module _ (low high : ℕ) (s : List ℕ) (position start end : ℕ) where
+  pub row-bad : {number place : ℕ} → parse s ≡ faulty number place → row.Refused number place ≡ rowFor low high s position start end
+  unfolding rowFor
+  row-bad e = rw e
+
+  module _ {o : Opened} (g : Open s o) where
+    pub row-16 : o .table .rows ≤ position → row.Refused 16 0 ≡ rowFor low high s position start end
+    unfolding rowFor
+    row-16 h =
+        let b : length (specsOf o) ≤ position = omega (arith, rows-long g) in
+        rw (g .is, le-ltb position (length (specsOf o)) b)
+
+    module _ (h : position < o .table .rows) where
+      within : position < length (specsOf o)
+      within = omega (arith, rows-long g)
+
+      spec-at : getD (specsOf o) position 0 ≡ getD (o .table .specs) position 0
+      spec-at = getD-take (o .table .rows) (o .table .specs) position 0 h
+
+      pub row-17 : serves low high (getD (o .table .specs) position 0) ≡ false → row.Refused 17 0 ≡ rowFor low high s position start end
+      unfolding rowFor
+      row-17 e = rw (g .is, lt-ltb position (length (specsOf o)) within, spec-at, e)
+
+      pub row-18 : serves low high (getD (o .table .specs) position 0) ≡ true → end < start → row.Refused 18 0 ≡ rowFor low high s position start end
+      unfolding rowFor
+      row-18 e t = rw (g .is, lt-ltb position (length (specsOf o)) within, spec-at, e, lt-ltb end start t)
+
+      pub row-given : serves low high (getD (o .table .specs) position 0) ≡ true → start ≤ end
+          → row.At (o .start + getD (o .table .starts) position 0) (o .start + getD (o .table .starts) position 0 + getD (o .table .lens) position 0)
+          ≡ rowFor low high s position start end
+      unfolding rowFor
+      row-given e t =
+          rw (g .is, lt-ltb position (length (specsOf o)) within, spec-at, e, le-ltb end start t, g .starts-are position h, ← len-at g h)
+
+-- a row that was found
+pub record Located (low high : ℕ) (s : List ℕ) (position start end at till : ℕ) : Type 0 where
+  pub row : HasRow s position
+  pub at-is : at ≡ startOf (row .lens) (row .next) position
+  pub till-is : till ≡ startOf (row .lens) (row .next) position + getD (row .lens) position 0
+  pub ends : till ≤ length s
+  pub ordered : start ≤ end
+  pub served : serves low high (getD (row .specs) position 0) ≡ true
+
+module _ {low high : ℕ} {s : List ℕ} {position start end at till : ℕ} where
+  located-in : (specs lens : List ℕ) (next : ℕ) → parse s ≡ tab specs lens next → position < length specs
+      → serves low high (getD specs position 0) ≡ true → start ≤ end
+      → row.At (startOf lens next position) (startOf lens next position + getD lens position 0) ≡ row.At at till
+      → Located low high s position start end at till
+  located-in specs lens next e h v t q =
+      let a : startOf lens next position ≡ at = cc in
+      let b : startOf lens next position + getD lens position 0 ≡ till = cc in
+      let f = table-fills s specs lens next e in
+      record {
+        row = record { specs = specs; lens = lens; next = next; is = e; there = h };
+        at-is = sym a;
+        till-is = sym b;
+        ends = omega (arith, sum-to lens position (omega (arith, f .even)), f .whole, b);
+        ordered = t;
+        served = v;
+      }
+
+  pub row-found : row.At at till ≡ rowFor low high s position start end → Located low high s position start end at till
+  unfolding rowFor
+  row-found e = go (parse s) refl (sym e)
+    where
+      go : (t : Tab) → parse s ≡ t → rowIn low high position start end t ≡ row.At at till → Located low high s position start end at till
+      go (faulty number place) p q = let z : _≡_ {A = ℕ} 0 1 = cc in absurd (omega arith)
+      go (tab specs lens next) p q = rows (ltb position (length specs)) (serves low high (getD specs position 0)) (ltb end start) refl refl refl q
+        where
+          rows : (a b c : Bool) → ltb position (length specs) ≡ a → serves low high (getD specs position 0) ≡ b → ltb end start ≡ c
+              → cond a (cond b (cond c (row.Refused 18 0) (row.At (startOf lens next position) (startOf lens next position + getD lens position 0))) (row.Refused 17 0)) (row.Refused 16 0)
+              ≡ row.At at till
+              → Located low high s position start end at till
+          rows true true false x y w q =
+              located-in specs lens next p (ltb-true position (length specs) x) y (ltb-false end start w) q
+          rows true true true x y w q = let z : _≡_ {A = ℕ} 0 1 = cc in absurd (omega arith)
+          rows true false c x y w q = let z : _≡_ {A = ℕ} 0 1 = cc in absurd (omega arith)
+          rows false b c x y w q = let z : _≡_ {A = ℕ} 0 1 = cc in absurd (omega arith)
+
+-- ---- the new readings
+module _ (values present new : ℕ) (flags : List ℕ) where
+  pub given-uneven : (values ≡ present → ⊥) → refused 8 0 ≡ givenOptional values present new flags
+  unfolding givenOptional
+  given-uneven h = rw (ne-eqb values present h)
+
+  -- what `judge_list` says of them, but for 5
+  abbrev unlimited : Answer → Answer
+  unlimited (done n) = done 0
+  unlimited (refused number place) = cond (eqb number 5) (done 0) (refused number place)
+
+  judged-as : {o : Answer} → values ≡ present → listJudged new flags ≡ o → unlimited o ≡ givenOptional values present new flags
+  unfolding givenOptional listJudged flagsJudged
+  judged-as {o} h e = rw (eq-eqb values present h, ← e) (go (eqb new (length flags)) (badFlag 0 flags))
+    where
+      size : (c : Bool) → unlimited (cond c (done new) (refused 5 0)) ≡ done 0
+      size true = refl
+      size false = refl
+
+      go : (a : Bool) (b : Option ℕ) → unlimited (cond a (flagsJudged new b) (refused 8 0)) ≡ cond a (flagsIn b) (refused 8 0)
+      go true none = size (leb new limit)
+      go true (some i) = refl
+      go false b = refl
+
+  pub given-done : {n : ℕ} → values ≡ present → listJudged new flags ≡ done n → done 0 ≡ givenOptional values present new flags
+  given-done h e = judged-as h e
+
+  pub given-many : {number place : ℕ} → values ≡ present → listJudged new flags ≡ refused number place → number ≡ 5 → done 0 ≡ givenOptional values present new flags
+  given-many {number} {place} h e f = sym (ap (λ (t : Bool). cond t (done 0) (refused number place)) (eq-eqb number 5 f)) ∙ judged-as h e
+
+  pub given-bad : {number place : ℕ} → values ≡ present → listJudged new flags ≡ refused number place → (number ≡ 5 → ⊥)
+      → refused number place ≡ givenOptional values present new flags
+  given-bad {number} {place} h e f = sym (ap (λ (t : Bool). cond t (done 0) (refused number place)) (ne-eqb number 5 f)) ∙ judged-as h e
+
+-- ---- the count, by the kind of column
+pub count-delta : (kind : ℕ) (s : List ℕ) → kind ≡ 3 → outcome (deltaTrace s) ≡ countAs kind s
+unfolding countAs
+count-delta kind s h = rw (eq-eqb kind 3 h)
+
+pub count-boolean : (kind : ℕ) (s : List ℕ) → (kind ≡ 3 → ⊥) → kind ≡ 4 → outcome (boolTrace s) ≡ countAs kind s
+unfolding countAs
+count-boolean kind s g h = rw (ne-eqb kind 3 g, eq-eqb kind 4 h)
+
+pub count-rest : (kind : ℕ) (s : List ℕ) → (kind ≡ 3 → ⊥) → (kind ≡ 4 → ⊥) → outcome (trace u64E s) ≡ countAs kind s
+unfolding countAs
+count-rest kind s g h = rw (ne-eqb kind 3 g, ne-eqb kind 4 h)
+
+-- ---- the result
+module _ (old start end new slots : ℕ) where
+  pub result-past : old < start → refused 18 0 ≡ resultJudged old start end new slots
+  unfolding resultJudged
+  result-past h = rw (lt-ltb old start h)
+
+  module _ (h : start ≤ old) where
+    pub result-many : limit < resultLength old start end new → refused 5 0 ≡ resultJudged old start end new slots
+    unfolding resultJudged
+    result-many m = rw (le-ltb old start h, lt-ltb limit (resultLength old start end new) m)
+
+    pub result-full : resultLength old start end new ≤ limit → slots < max old (resultLength old start end new) → refused 9 0 ≡ resultJudged old start end new slots
+    unfolding resultJudged
+    result-full m f =
+        rw (le-ltb old start h, le-ltb limit (resultLength old start end new) m, lt-ltb slots (max old (resultLength old start end new)) f)
+
+    pub result-done : {n : ℕ} → resultLength old start end new ≤ limit → max old (resultLength old start end new) ≤ slots → n ≡ resultLength old start end new
+        → done n ≡ resultJudged old start end new slots
+    unfolding resultJudged
+    result-done m f e =
+        rw (le-ltb old start h, le-ltb limit (resultLength old start end new) m, le-ltb slots (max old (resultLength old start end new)) f) (ap done e)
+
+  -- a result that is not refused
+  pub record Judged (n : ℕ) : Type 0 where
+    pub starts : start ≤ old
+    pub long : n ≡ resultLength old start end new
+    pub few : n ≤ limit
+    pub old-fits : old ≤ slots
+    pub new-fits : n ≤ slots
+
+  pub result-is : {n : ℕ} → resultJudged old start end new slots ≡ done n → Judged n
+  unfolding resultJudged
+  result-is {n} e = go (ltb old start) (ltb limit L) (ltb slots (max old L)) refl refl refl e
+    where
+      L : ℕ
+      L = resultLength old start end new
+
+      go : (a b c : Bool) → ltb old start ≡ a → ltb limit L ≡ b → ltb slots (max old L) ≡ c
+          → cond a (refused 18 0) (cond b (refused 5 0) (cond c (refused 9 0) (done L))) ≡ done n → Judged n
+      go false false false x y w q =
+          let k : L ≡ n = cc in
+          let m = ltb-false slots (max old L) w in
+          record {
+            starts = ltb-false old start x;
+            long = sym k;
+            few = omega (arith, k, ltb-false limit L y);
+            old-fits = omega (arith, m);
+            new-fits = omega (arith, m, k);
+          }
+      go false false true x y w q = let z : _≡_ {A = ℕ} 0 1 = cc in absurd (omega arith)
+      go false true c x y w q = let z : _≡_ {A = ℕ} 0 1 = cc in absurd (omega arith)
+      go true b c x y w q = let z : _≡_ {A = ℕ} 0 1 = cc in absurd (omega arith)
+
+-- ---- a column's readings, where it is sound
+pub sound-is : {R : Type 0} (t : Trace R) {n : ℕ} → outcome t ≡ done n → length (t .readings) ≡ n
+unfolding outcome outcomeOf
+sound-is t {n} e = go (t .ending) e
+  where
+    go : (x : Ending) → outcomeOf (length (t .readings)) x ≡ done n → length (t .readings) ≡ n
+    go sound q = cc
+    go (fault number place) q = let z : _≡_ {A = ℕ} 0 1 = cc in absurd (omega arith)
+
+-- ---- THE CHECKS ARE THOSE OF AN EDIT, over the kind of column
+module _ {A : Type 0} (K : Kind A) (counts : (c : List ℕ) → countAs (K .low) c ≡ outcome (K .reads c)) (s : List ℕ) (position start end : ℕ)
+    (given : Answer) (new : List A) (n : ℕ) (many : (g : ℕ) → given ≡ done g → n ≡ length new) (slots room : ℕ) where
+  -- the edit that a plan stands for: the refusal; or ready, and the new readings are good
+  abbrev Follows : Plan → Edited A → Type 0
+  Follows (plan.Refused number place) e = e ≡ stop number place
+  Follows (plan.Ready at till old len) e = Ready K s position start end n slots at till old len × ((g : ℕ) × (given ≡ done g))
+
+  module _ (specs lens : List ℕ) (next : ℕ) (e : parse s ≡ tab specs lens next) (h : position < length specs)
+      (v : serves (K .low) (K .high) (getD specs position 0) ≡ true) (t : start ≤ end) where
+    abbrev at : ℕ
+    at = startOf lens next position
+
+    abbrev len : ℕ
+    len = getD lens position 0
+
+    part-is : take (at + len - at) (drop at s) ≡ take len (drop at s)
+    part-is = let k : at + len - at ≡ len = omega arith in ap (λ (n : ℕ). take n (drop at s)) k
+
+    abbrev column : List ℕ
+    column = take len (drop at s)
+
+    follows-list : (old : ℕ) → outcome (K .reads column) ≡ done old → ((g : ℕ) × (given ≡ done g))
+        → Follows (onResult at (at + len) old (resultJudged old start end n slots))
+        (editList K (K .reads column .readings) start end new slots room (newBlock s specs lens next position))
+    unfolding resultJudged
+    follows-list old o g = rw (← sound-is (K .reads column) o) (starts (ltb k start) refl)
+      where
+        k : ℕ
+        k = length (K .reads column .readings)
+
+        L : ℕ
+        L = resultLength k start end n
+
+        xs : List A
+        xs = spliced (K .reads column .readings) start (endIn end k) new
+
+        fits : (b c : Bool) → start ≤ k → ltb limit L ≡ b → ltb slots (max k L) ≡ c
+            → Follows (onResult at (at + len) k (cond b (refused 5 0) (cond c (refused 9 0) (done L))))
+            (cond b (stop 5 0) (cond c (stop 9 0) (finished K k xs room (newBlock s specs lens next position) (K .wide xs))))
+        fits true c m x y = refl
+        fits false true m x y = refl
+        fits false false m x y =
+            let y′ = ltb-false slots (max k L) y in
+            let f = table-fills s specs lens next e in (
+              record {
+                row = record { specs = specs; lens = lens; next = next; is = e; there = h };
+                served = v;
+                at-is = refl;
+                till-is = refl;
+                ends = omega (arith, sum-to lens position (omega (arith, f .even)), f .whole);
+                reads = ap (λ (c : List ℕ). outcome (K .reads c)) part-is ∙ o ∙ ap done (sym (sound-is (K .reads column) o));
+                ordered = t;
+                starts = m;
+                long = refl;
+                few = ltb-false limit L x;
+                old-fits = omega (arith, y′);
+                new-fits = omega (arith, y′);
+              },
+              g,
+            )
+
+        starts : (a : Bool) → ltb k start ≡ a
+            → Follows (onResult at (at + len) k (cond a (refused 18 0) (cond (ltb limit L) (refused 5 0) (cond (ltb slots (max k L)) (refused 9 0) (done L)))))
+            (cond a (stop 18 0)
+            (cond (ltb limit (length xs)) (stop 5 0)
+            (cond (ltb slots (max k (length xs))) (stop 9 0) (finished K k xs room (newBlock s specs lens next position) (K .wide xs)))))
+        starts true x = refl
+        starts false x =
+            let m = ltb-false k start x in
+            let l : length xs ≡ L = length-spliced (K .reads column .readings) start (endIn end k) new (omega (arith, m)) (omega arith) ∙ ap (λ (j : ℕ). resultLength k start end j) (sym (many (g .0) (g .1))) in
+            rw l (fits (ltb limit L) (ltb slots (max k L)) m refl refl)
+
+    follows-count : (o : Answer) → outcome (K .reads column) ≡ o → ((g : ℕ) × (given ≡ done g))
+        → Follows (onCount at (at + len) start end n slots o)
+        (readBy K o (K .reads column .readings) (λ old. editList K old start end new slots room (newBlock s specs lens next position)))
+    follows-count (done old) q g = follows-list old q g
+    follows-count (refused number place) q g = refl
+
+    follows-given : (o : Answer) → given ≡ o
+        → Follows (onGiven (K .low) s at (at + len) start end n slots o)
+        (editColumn K column start end o new slots room (newBlock s specs lens next position))
+    follows-given (refused number place) q = refl
+    follows-given (done g) q = rw (part-is, counts column) (follows-count (outcome (K .reads column)) refl (g, q))
+
+  follows-in : (t : Tab) → parse s ≡ t
+      → Follows (onRow (K .low) s start end given n slots (rowIn (K .low) (K .high) position start end t)) (editIn K s position start end given new slots room t)
+  follows-in (faulty number place) e = refl
+  follows-in (tab specs lens next) e = rows (ltb position (length specs)) (serves (K .low) (K .high) (getD specs position 0)) (ltb end start) refl refl refl
+    where
+      rows : (a b c : Bool) → ltb position (length specs) ≡ a → serves (K .low) (K .high) (getD specs position 0) ≡ b → ltb end start ≡ c
+          → Follows (onRow (K .low) s start end given n slots
+          (cond a (cond b (cond c (row.Refused 18 0) (row.At (startOf lens next position) (startOf lens next position + getD lens position 0))) (row.Refused 17 0)) (row.Refused 16 0)))
+          (cond a
+          (cond b (cond c (stop 18 0) (editColumn K (take (getD lens position 0) (drop (startOf lens next position) s)) start end given new slots room (newBlock s specs lens next position)))
+          (stop 17 0)) (stop 16 0))
+      rows false b c x y w = refl
+      rows true false c x y w = refl
+      rows true true true x y w = refl
+      rows true true false x y w =
+          follows-given specs lens next e (ltb-true position (length specs) x) y (ltb-false end start w) given refl
+
+  follows : Follows (planned (K .low) (K .high) s position start end given n slots) (edited K s position start end given new slots room)
+  unfolding rowFor edited
+  follows = follows-in (parse s) refl
+
+  pub plan-stops : {number place : ℕ} → plan.Refused number place ≡ planned (K .low) (K .high) s position start end given n slots
+      → edited K s position start end given new slots room ≡ stop number place
+  plan-stops e = subst (λ (p : Plan). Follows p (edited K s position start end given new slots room)) (sym e) follows
+
+  pub plan-ready : {at till old len : ℕ} → plan.Ready at till old len ≡ planned (K .low) (K .high) s position start end given n slots
+      → Ready K s position start end n slots at till old len × ((g : ℕ) × (given ≡ done g))
+  plan-ready e = subst (λ (p : Plan). Follows p (edited K s position start end given new slots room)) (sym e) follows
+
+pub leb-rest : (n k m : ℕ) → k ≤ n → leb m (n - k) ≡ leb (k + m) n
+leb-rest n k m h = go (leb m (n - k)) refl
+  where
+    go : (b : Bool) → leb m (n - k) ≡ b → leb m (n - k) ≡ leb (k + m) n
+    go true e = e ∙ sym (le-leb (k + m) n (omega (arith, leb-true m (n - k) e)))
+    go false e = e ∙ sym (lt-leb (k + m) n (omega (arith, leb-false m (n - k) e)))

@@ -1,0 +1,72 @@
+-- What the private functions before the slots are filled answer: the checks, by numbers alone. No public promise cites them; that they are those
+-- of an edit is proved (proofs/Planning.antt).
+use Prim.Native.Nat.{ℕ, _+_, _-_, max}
+use mathlib.Core.List.{List}
+use mathlib.Core.Bool.{cond}
+use lib.Dec.{ltb, eqb}
+use lib.ListN.{length, getD, take, drop}
+use Rattle.leb128.specs.Answer.{Answer, done, refused}
+use Rattle.encoding.specs.Limit.{limit}
+use Rattle.encoding.specs.Column.{trace}
+use Rattle.encoding.specs.Walk.{outcome}
+use Rattle.rle.specs.Word.{u64E}
+use Rattle.delta.specs.Sums.{deltaTrace}
+use Rattle.boolean.specs.Turns.{boolTrace}
+use Rattle.raw_column.specs.Table.{Tab, tab, faulty, parse}
+use Rattle.raw_column.specs.Part.{startOf}
+use Rattle.splice.specs.Edit.{endIn, serves}
+use Rattle.splice.specs.declared.Row.{Row}
+use Rattle.splice.specs.declared.Row.the-variants as row
+use Rattle.splice.specs.declared.Plan.{Plan}
+use Rattle.splice.specs.declared.Plan.the-variants as plan
+
+-- table faults; 16; 17; 18 for end below start
+abbrev pub rowIn : ℕ → ℕ → ℕ → ℕ → ℕ → Tab → Row
+rowIn low high position start end (faulty number place) = row.Refused number place
+rowIn low high position start end (tab specs lens next) =
+    cond (ltb position (length specs))
+    (cond (serves low high (getD specs position 0))
+    (cond (ltb end start) (row.Refused 18 0) (row.At (startOf lens next position) (startOf lens next position + getD lens position 0)))
+    (row.Refused 17 0))
+    (row.Refused 16 0)
+
+unfoldable pub rowFor : ℕ → ℕ → List ℕ → ℕ → ℕ → ℕ → Row
+rowFor low high s position start end = rowIn low high position start end (parse s)
+
+-- a column's readings counted as those of the kind whose lowest type this is
+unfoldable pub countAs : ℕ → List ℕ → Answer
+countAs kind s = cond (eqb kind 3) (outcome (deltaTrace s)) (cond (eqb kind 4) (outcome (boolTrace s)) (outcome (trace u64E s)))
+
+-- the new list's length
+abbrev pub resultLength : ℕ → ℕ → ℕ → ℕ → ℕ
+resultLength old start end new = start + new + (old - endIn end old)
+
+-- 18 for start beyond the list; 5 for the result; 9
+unfoldable pub resultJudged : ℕ → ℕ → ℕ → ℕ → ℕ → Answer
+resultJudged old start end new slots =
+    cond (ltb old start) (refused 18 0)
+    (cond (ltb limit (resultLength old start end new)) (refused 5 0)
+    (cond (ltb slots (max old (resultLength old start end new))) (refused 9 0)
+    (done (resultLength old start end new))))
+
+abbrev pub onResult : ℕ → ℕ → ℕ → Answer → Plan
+onResult at till old (done n) = plan.Ready at till old n
+onResult at till old (refused number place) = plan.Refused number place
+
+abbrev pub onCount : ℕ → ℕ → ℕ → ℕ → ℕ → ℕ → Answer → Plan
+onCount at till start end new slots (done old) = onResult at till old (resultJudged old start end new slots)
+onCount at till start end new slots (refused number place) = plan.Refused number place
+
+abbrev pub columnPlanned : ℕ → List ℕ → ℕ → ℕ → ℕ → ℕ → ℕ → ℕ → Plan
+columnPlanned kind s at till start end new slots = onCount at till start end new slots (countAs kind (take (till - at) (drop at s)))
+
+abbrev pub onGiven : ℕ → List ℕ → ℕ → ℕ → ℕ → ℕ → ℕ → ℕ → Answer → Plan
+onGiven kind s at till start end new slots (done g) = columnPlanned kind s at till start end new slots
+onGiven kind s at till start end new slots (refused number place) = plan.Refused number place
+
+abbrev pub onRow : ℕ → List ℕ → ℕ → ℕ → Answer → ℕ → ℕ → Row → Plan
+onRow kind s start end given new slots (row.At at till) = onGiven kind s at till start end new slots given
+onRow kind s start end given new slots (row.Refused number place) = plan.Refused number place
+
+abbrev pub planned : ℕ → ℕ → List ℕ → ℕ → ℕ → ℕ → Answer → ℕ → ℕ → Plan
+planned low high s position start end given new slots = onRow low s start end given new slots (rowFor low high s position start end)
