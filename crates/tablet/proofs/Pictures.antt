@@ -5,9 +5,10 @@ use Prim.Native.Nat.{ℕ, _+_, _-_, _*_, _/_, _^_, _≤_, _<_, min}
 use native.Mathlib.Omega.{arith}
 use native.Mathlib.Nat.{le-div-iff-mul-le, div-lt-iff-lt-mul, min-eq-left, min-eq-right}
 use borrow.Author.Count.{below-more}
+use borrow.Author.Tests.{lt-ltb, le-ltb, eq-eqb, ne-eqb}
 use lib.ListN.{getD}
 use Rattle.tablet.specs.declared.picture.Stretch.{Stretch}
-use Rattle.tablet.specs.Picture.{Within, Covers, Grown}
+use Rattle.tablet.specs.Picture.{Within, Covers, Grown, shadeOf}
 
 -- so many places of `per` readings, each whole
 pub whole : (place per n : ℕ) → 0 < per → place ≤ n / per → place * per ≤ n
@@ -45,3 +46,26 @@ module _ (values present : List ℕ) (a : ℕ) where
 
   pub covers-fewer : (i e : ℕ) (s : Stretch) → e ≤ i → Covers values present a i s → Covers values present a e s
   covers-fewer i e s h all k l = all k (omega arith)
+
+-- what stands at a place of a row
+module _ (row top bottom here gone : ℕ) where
+  pub shade-gap : here ≡ 0 → 0 ≡ shadeOf row top bottom here gone
+  unfolding shadeOf
+  shade-gap e = simp (eq-eqb here 0 e)
+
+  module _ (n : here ≡ 0 → ⊥) where
+    pub shade-air : row < top → 0 ≡ shadeOf row top bottom here gone
+    unfolding shadeOf
+    shade-air a = simp (ne-eqb here 0 n, lt-ltb row top a)
+
+    pub shade-clay : top ≤ row → bottom < row → 3 ≡ shadeOf row top bottom here gone
+    unfolding shadeOf
+    shade-clay t b = simp (ne-eqb here 0 n, le-ltb row top t, lt-ltb bottom row b)
+
+    pub shade-whole : top ≤ row → row ≤ bottom → gone ≡ 0 → 1 ≡ shadeOf row top bottom here gone
+    unfolding shadeOf
+    shade-whole t b g = simp (ne-eqb here 0 n, le-ltb row top t, le-ltb bottom row b, eq-eqb gone 0 g)
+
+    pub shade-part : top ≤ row → row ≤ bottom → (gone ≡ 0 → ⊥) → 2 ≡ shadeOf row top bottom here gone
+    unfolding shadeOf
+    shade-part t b g = simp (ne-eqb here 0 n, le-ltb row top t, le-ltb bottom row b, ne-eqb gone 0 g)

@@ -1,5 +1,7 @@
 -- What a picture shows of a list of readings. Assumes nothing.
-use Prim.Native.Nat.{ℕ, _+_, _≤_, _<_}
+use Prim.Native.Nat.{ℕ, _≤_, _<_}
+use mathlib.Core.Bool.{cond}
+use lib.Dec.{ltb, eqb}
 use mathlib.Core.Path.{_≡_}
 use mathlib.Core.List.{List}
 use lib.ListN.{getD}
@@ -19,3 +21,8 @@ Covers values present a e s = (k : ℕ) → k < e → a ≤ k → (getD present 
 pub record Grown (s : Stretch) (v here : ℕ) (t : Stretch) : Type 0 where
   pub keeps : (w : ℕ) → Within s w → Within t w
   pub takes : (here ≡ 0 → ⊥) → Within t v
+
+-- what stands at a place of a row: 0 air or a gap, 1 the trace, 2 the trace where some readings are absent, 3 clay
+unfoldable pub shadeOf : ℕ → ℕ → ℕ → ℕ → ℕ → ℕ
+shadeOf row top bottom here gone =
+    cond (eqb here 0) 0 (cond (ltb row top) 0 (cond (ltb bottom row) 3 (cond (eqb gone 0) 1 2)))

@@ -55,21 +55,24 @@ pub const MISSING: usize = usize::MAX;
 fn not_a_place(word: &[u8], what: &[u8], desk: Desk) -> usize {
     let p = pen::text(pen::text(pen::on(desk.notes), b"tablet: "), what);
     let q = pen::text(
-        pen::text(
-            p,
-            b" is to be a whole number from 0 to 18446744073709551614, and is \"",
-        ),
-        word,
+        p,
+        b" is to be a whole number from 0 to 18446744073709551614, and is \"",
     );
-    pen::text(q, b"\"\n");
+    pen::text(pen::text(q, word), b"\"\n");
     MISSING
 }
 
 // A refusal of a file's column, said as a note.
 pub fn say_refused(path: &[u8], position: usize, number: u8, place: usize, len: usize, desk: Desk) {
-    let p = pen::count(pen::text(files::about(path, desk), b"column "), position);
-    let q = refusals::say(pen::text(p, b": "), number, place, len);
-    pen::text(q, b"\n");
+    let p = pen::form(
+        files::about(path, desk),
+        b"column %: ",
+        position as u64,
+        0,
+        0,
+        0,
+    );
+    pen::text(refusals::say(p, number, place, len), b"\n");
 }
 
 // A refusal of a file's table, said as a note; where the file ends too early, where that is.

@@ -129,19 +129,27 @@ fn left(block: &[u8], start: usize) -> usize {
 pub fn explain(p: Pen, block: &[u8]) -> Pen {
     let rows = rows_of(block);
     let c = find(block, rows, data_at(block, rows));
-    let ends = pen::count(pen::text(p, b"  the file ends at byte "), block.len());
-    let inside = pen::number(pen::text(ends, b", inside column "), c.position);
-    let had = say_had(inside, c, left(block, c.start));
+    let ends = pen::form(
+        p,
+        b"  the file ends at byte %, inside column % (",
+        block.len() as u64,
+        c.position,
+        0,
+        0,
+    );
+    let had = say_had(ends, c, left(block, c.start));
     say_fault(had, block, c)
 }
 
 fn say_had(p: Pen, c: Cut, had: usize) -> Pen {
-    let kind = kinds::say(pen::text(p, b" ("), c.spec, 0);
-    let id = pen::number(pen::text(kind, b", id "), kinds::id(c.spec));
-    let begins = pen::count(pen::text(id, b"), which begins at byte "), c.start);
-    let there = pen::count(pen::text(begins, b": "), had);
-    let of = pen::number(pen::text(there, b" of its "), c.len);
-    pen::text(of, b" bytes are there\n")
+    pen::form(
+        kinds::say(p, c.spec, 0),
+        b", id %), which begins at byte %: % of its % bytes are there\n",
+        kinds::id(c.spec),
+        c.start as u64,
+        had as u64,
+        c.len,
+    )
 }
 
 // The bytes that are there, read as far as they go. Where they happen to be a shorter column, that is no reading of this one.
@@ -150,12 +158,9 @@ fn say_fault(p: Pen, block: &[u8], c: Cut) -> Pen {
     let part = between(block, start, block.len());
     match load::count(part, kinds::of_spec(c.spec)) {
         Answer::Done(_) => pen::text(p, b"  none of its readings is certain\n"),
-        Answer::Refused(number, place) => say_place(p, c.position, number, place, part.len()),
+        Answer::Refused(number, place) => {
+            let q = pen::form(p, b"  column %: ", c.position, 0, 0, 0);
+            pen::text(refusals::say(q, number, place, part.len()), b"\n")
+        }
     }
-}
-
-fn say_place(p: Pen, position: u64, number: u8, place: usize, len: usize) -> Pen {
-    let q = pen::number(pen::text(p, b"  column "), position);
-    let r = refusals::say(pen::text(q, b": "), number, place, len);
-    pen::text(r, b"\n")
 }

@@ -3,7 +3,6 @@
 use crate::column;
 use crate::column::Column;
 use crate::files;
-use crate::files::Got;
 use crate::help;
 use crate::kinds;
 use crate::kinds::Kind;
@@ -31,27 +30,36 @@ pub struct Subject {
 
 // The column in words.
 pub fn say_subject(p: Pen, path: &[u8], s: Subject) -> Pen {
+    let q = pen::form(
+        pen::text(p, path),
+        b", column %",
+        s.position as u64,
+        0,
+        0,
+        0,
+    );
     if !s.found {
-        return pen::count(pen::text(pen::text(p, path), b", column "), s.position);
+        return q;
     }
-    let q = pen::count(pen::text(pen::text(p, path), b", column "), s.position);
     let r = kinds::say(pen::text(q, b": "), s.spec, 0);
-    let t = pen::number(pen::text(r, b", id "), kinds::id(s.spec));
-    pen::text(pen::count(pen::text(t, b", "), s.len), b" bytes")
+    pen::form(r, b", id %, % bytes", kinds::id(s.spec), s.len as u64, 0, 0)
 }
 
 // What is known of all its readings.
 pub fn say_facts(p: Pen, kind: Kind, all: Stretch) -> Pen {
-    let q = pen::count(p, total(all));
-    let r = pen::count(pen::text(q, b" readings, "), all.gone);
-    let t = pen::text(r, b" absent");
+    let n = total(all);
+    let q = pen::form(p, b"% readings, % absent", n as u64, all.gone as u64, 0, 0);
     if all.here == 0 {
-        return t;
+        return q;
     }
     if kinds::is_yes_no(kind) {
-        return t;
+        return q;
     }
-    let low = numbers::say(pen::text(t, b"; depths from "), kind, all.low);
+    say_depths(q, kind, all)
+}
+
+fn say_depths(p: Pen, kind: Kind, all: Stretch) -> Pen {
+    let low = numbers::say(pen::text(p, b"; depths from "), kind, all.low);
     let high = numbers::say(pen::text(low, b" to "), kind, all.high);
     pen::text(high, b" \xc2\xb5m")
 }
@@ -169,11 +177,11 @@ fn draw_block(
 
 fn draw_file(path: &[u8], position: usize, out: &[u8], over: bool, desk: Desk) -> bool {
     let mut block = rooms::block();
-    match files::read(path, &mut block, desk) {
-        Got::Bytes(n) => draw_block(path, between(&block, 0, n), position, out, over, desk),
-        Got::TooLarge => false,
-        Got::Failed(_) => false,
+    let n = files::read(path, &mut block, desk);
+    if n == files::FAILED {
+        return false;
     }
+    draw_block(path, between(&block, 0, n), position, out, over, desk)
 }
 
 fn draw_to(line: &[u8], out: &[u8], over: bool, desk: Desk) -> bool {

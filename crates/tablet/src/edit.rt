@@ -5,7 +5,6 @@ use crate::apply::Range;
 use crate::column;
 use crate::column::Column;
 use crate::files;
-use crate::files::Got;
 use crate::given;
 use crate::help;
 use crate::kinds;
@@ -57,7 +56,7 @@ fn plus(a: usize, b: usize) -> usize {
 // nothing, and that is said.
 fn say_done(p: Pen, part: &[u8], kind: Kind, meant: usize) -> Pen {
     let n = count_of(part, kind);
-    let q = pen::text(pen::count(pen::text(p, b" has "), n), b" readings\n");
+    let q = pen::form(p, b" has % readings\n", n as u64, 0, 0, 0);
     if n == meant {
         return q;
     }
@@ -65,24 +64,28 @@ fn say_done(p: Pen, part: &[u8], kind: Kind, meant: usize) -> Pen {
 }
 
 pub fn say_lost(p: Pen, meant: usize) -> Pen {
-    let q = pen::count(pen::text(p, b"  note: all "), meant);
-    pen::text(
-        q,
-        b" readings of the list are absent; such a list is written as nothing and reads back as empty\n",
+    pen::form(
+        p,
+        b"  note: no reading of the list is present (absent: %); such a list is written as nothing and reads back as empty\n",
+        meant as u64,
+        0,
+        0,
+        0,
     )
 }
 
 fn say_written(to: &[u8], block: &[u8], position: usize, meant: usize, desk: Desk) -> bool {
-    let p = pen::text(pen::text(pen::on(desk.out), to), b": ");
-    let q = pen::text(pen::count(p, block.len()), b" bytes, column ");
+    let q = pen::form(
+        pen::text(pen::on(desk.out), to),
+        b": % bytes, column %",
+        block.len() as u64,
+        position as u64,
+        0,
+        0,
+    );
     match column::locate(block, position) {
         Column::Found(spec, a, e) => {
-            let r = say_done(
-                pen::count(q, position),
-                between(block, a, e),
-                kinds::of_spec(spec),
-                meant,
-            );
+            let r = say_done(q, between(block, a, e), kinds::of_spec(spec), meant);
             pen::finish(r, desk)
         }
         Column::Refused(_, _) => false,
@@ -184,11 +187,11 @@ fn edit_block(
 
 fn edit_file(path: &[u8], r: Range, over: bool, text: &[u8], to: &[u8], desk: Desk) -> bool {
     let mut block = rooms::block();
-    match files::read(path, &mut block, desk) {
-        Got::Bytes(n) => edit_block(path, between(&block, 0, n), r, over, text, to, desk),
-        Got::TooLarge => false,
-        Got::Failed(_) => false,
+    let n = files::read(path, &mut block, desk);
+    if n == files::FAILED {
+        return false;
     }
+    edit_block(path, between(&block, 0, n), r, over, text, to, desk)
 }
 
 // The three numbers of an edit.

@@ -4,9 +4,13 @@ use crate::pen::Desk;
 use crate::pen::Pen;
 use crate::text::between;
 use crate::text::put;
+use crate::words;
+
+// The file was not read, and why was said.
+pub const FAILED: usize = usize::MAX;
 
 // What reading a file came to: so many bytes, too many for the room, or an error of the system.
-pub enum Got {
+enum Got {
     Bytes(usize),
     TooLarge,
     Failed(i32),
@@ -39,20 +43,24 @@ fn fetch(path: &[u8], room: &mut [u8]) -> Got {
     got
 }
 
-fn say_error(p: Pen, error: i32) -> Pen {
+// Which of the texts of `say_failed` an error has.
+fn text_of(error: i32) -> usize {
     if error == libc::ENOENT {
-        return pen::text(p, b"there is no such file\n");
+        return 1;
     }
     if error == libc::EACCES {
-        return pen::text(p, b"it may not be opened\n");
+        return 2;
     }
     if error == libc::EISDIR {
-        return pen::text(p, b"it is a directory\n");
+        return 3;
     }
     if error == libc::ENOSPC {
-        return pen::text(p, b"the disk is full\n");
+        return 4;
     }
-    pen::text(p, b"the system failed to open, read or write it\n")
+    if error == libc::EEXIST {
+        return 5;
+    }
+    0
 }
 
 // The beginning of a message about a file.
@@ -61,26 +69,32 @@ pub fn about(path: &[u8], desk: Desk) -> Pen {
     pen::text(pen::text(p, path), b": ")
 }
 
-pub fn say_failed(path: &[u8], error: i32, desk: Desk) {
-    say_error(about(path, desk), error);
+fn say_failed(path: &[u8], error: i32, desk: Desk) {
+    let all = b"the system failed to open, read or write it\n\0\
+there is no such file or folder\n\0\
+it may not be opened\n\0\
+it is a folder\n\0\
+the disk is full\n\0\
+the unfinished file beside it, of the same name with .part behind it, is in the way; remove it if no other run writes it\n\0";
+    pen::text(about(path, desk), words::word(all, text_of(error)));
 }
 
-// Reads a file into the room; what goes wrong is said.
-pub fn read(path: &[u8], room: &mut [u8], desk: Desk) -> Got {
-    let got = fetch(path, room);
-    match got {
-        Got::Bytes(_) => {}
+// Reads a file into the room: how many bytes it has, or FAILED.
+pub fn read(path: &[u8], room: &mut [u8], desk: Desk) -> usize {
+    match fetch(path, room) {
+        Got::Bytes(n) => n,
         Got::TooLarge => {
             pen::text(
                 about(path, desk),
                 b"larger than the 262,144 bytes that this tool takes\n",
             );
+            FAILED
         }
         Got::Failed(error) => {
             say_failed(path, error, desk);
+            FAILED
         }
     }
-    got
 }
 
 // The name of the file that is written first.
@@ -113,20 +127,9 @@ pub fn begin(path: &[u8], over: bool, desk: Desk) -> i32 {
     let n = part_name(path, &mut name);
     let fd = os::create(between(&name, 0, n));
     if fd < 0 {
-        say_not_begun(path, os::errno(), desk);
+        say_failed(path, os::errno(), desk);
     }
     fd
-}
-
-fn say_not_begun(path: &[u8], error: i32, desk: Desk) {
-    if error == libc::EEXIST {
-        pen::text(
-            about(path, desk),
-            b"the unfinished file beside it, its name with .part behind it, is in the way; remove it if no other run is writing it\n",
-        );
-        return;
-    }
-    say_failed(path, error, desk);
 }
 
 // Closes the part file and gives it its name, or removes it and says why.

@@ -1,8 +1,8 @@
 // What a column holds, by its type.
 use crate::pen;
 use crate::pen::Pen;
+use crate::words;
 use column_specification::ColumnSpec;
-use column_specification::ColumnType;
 
 pub enum Kind {
     // optional i64
@@ -14,17 +14,22 @@ pub enum Kind {
     Unserved,
 }
 
+// 01's types: 1 Actor, 2 Integer, 3 DeltaInteger, 4 Boolean.
 pub fn of_spec(spec: u32) -> Kind {
-    match ColumnSpec(spec).col_type() {
-        ColumnType::DeltaInteger => Kind::Signed,
-        ColumnType::Actor => Kind::Unsigned,
-        ColumnType::Integer => Kind::Unsigned,
-        ColumnType::Boolean => Kind::YesNo,
-        ColumnType::Group => Kind::Unserved,
-        ColumnType::String => Kind::Unserved,
-        ColumnType::ValueMetadata => Kind::Unserved,
-        ColumnType::Value => Kind::Unserved,
+    let t = ColumnSpec(spec).col_type().as_u8();
+    if t == 3 {
+        return Kind::Signed;
     }
+    if t == 4 {
+        return Kind::YesNo;
+    }
+    if t == 1 {
+        return Kind::Unsigned;
+    }
+    if t == 2 {
+        return Kind::Unsigned;
+    }
+    Kind::Unserved
 }
 
 pub fn is_served(kind: Kind) -> bool {
@@ -45,16 +50,9 @@ pub fn is_yes_no(kind: Kind) -> bool {
 
 // The type in words, in a field of so many places.
 pub fn say(p: Pen, spec: u32, width: usize) -> Pen {
-    match ColumnSpec(spec).col_type() {
-        ColumnType::Group => pen::padded(p, b"group", width),
-        ColumnType::Actor => pen::padded(p, b"actor", width),
-        ColumnType::Integer => pen::padded(p, b"integer", width),
-        ColumnType::DeltaInteger => pen::padded(p, b"delta integer", width),
-        ColumnType::Boolean => pen::padded(p, b"boolean", width),
-        ColumnType::String => pen::padded(p, b"string", width),
-        ColumnType::ValueMetadata => pen::padded(p, b"value metadata", width),
-        ColumnType::Value => pen::padded(p, b"value", width),
-    }
+    let t = ColumnSpec(spec).col_type().as_u8();
+    let names = b"group\0actor\0integer\0delta integer\0boolean\0string\0value metadata\0value\0";
+    pen::padded(p, words::word(names, t as usize), width)
 }
 
 pub fn id(spec: u32) -> u64 {

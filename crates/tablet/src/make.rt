@@ -214,8 +214,8 @@ fn note_lost(block: &[u8], position: usize, n: usize, desk: Desk) {
     match column::locate(block, position) {
         Column::Found(_, a, e) => {
             if a == e {
-                let p = pen::count(pen::text(pen::on(desk.out), b"column "), position);
-                edit::say_lost(pen::text(p, b":\n"), n);
+                let p = pen::form(pen::on(desk.out), b"column %:\n", position as u64, 0, 0, 0);
+                edit::say_lost(p, n);
             }
         }
         Column::Refused(_, _) => {}
@@ -236,9 +236,15 @@ fn fill_columns(line: &[u8], n: usize, block: &mut [u8], len: usize, desk: Desk)
 }
 
 fn say_done(to: &[u8], len: usize, n: usize, desk: Desk) -> bool {
-    let p = pen::count(pen::text(pen::text(pen::on(desk.out), to), b": "), len);
-    let q = pen::count(pen::text(p, b" bytes, "), n);
-    pen::finish(pen::text(q, b" columns\n"), desk)
+    let p = pen::form(
+        pen::text(pen::on(desk.out), to),
+        b": % bytes, columns: %\n",
+        len as u64,
+        n as u64,
+        0,
+        0,
+    );
+    pen::finish(p, desk)
 }
 
 // The table, then the columns, then the file.

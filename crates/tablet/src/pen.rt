@@ -1,5 +1,7 @@
 // Writing: a pen is a descriptor, and whether all that was written so far came through.
+use crate::text::after;
 use crate::text::between;
+use crate::text::find;
 
 pub struct Pen {
     pub fd: i32,
@@ -37,10 +39,6 @@ pub fn number(p: Pen, n: u64) -> Pen {
     broken(p)
 }
 
-pub fn count(p: Pen, n: usize) -> Pen {
-    number(p, n as u64)
-}
-
 pub fn hex(p: Pen, n: u64) -> Pen {
     if io::print_hex(p.fd, n, 2) {
         return p;
@@ -48,16 +46,46 @@ pub fn hex(p: Pen, n: u64) -> Pen {
     broken(p)
 }
 
-// So many blanks, at most 32.
-pub fn blanks(p: Pen, n: usize) -> Pen {
-    text(
-        p,
-        between(b"                                ", 0, most(n, 32)),
-    )
+fn pick(k: usize, a: u64, b: u64, c: u64, d: u64) -> u64 {
+    if k == 0 {
+        return a;
+    }
+    if k == 1 {
+        return b;
+    }
+    if k == 2 {
+        return c;
+    }
+    d
 }
 
-fn most(n: usize, m: usize) -> usize {
-    if n < m { n } else { m }
+// A text in which each % stands for the next of four numbers.
+pub fn form(p: Pen, t: &[u8], a: u64, b: u64, c: u64, d: u64) -> Pen {
+    let mut q = p;
+    let mut at = 0;
+    let mut k = 0;
+    let mut turns = t.len();
+    while turns > 0 {
+        let end = find(t, at, b'%');
+        q = text(q, between(t, at, end));
+        if end == t.len() {
+            return q;
+        }
+        q = number(q, pick(k, a, b, c, d));
+        k = after(k);
+        at = after(end);
+        turns -= 1;
+    }
+    q
+}
+
+// So many blanks, at most 80.
+pub fn blanks(p: Pen, n: usize) -> Pen {
+    let all = b"                                                                                ";
+    if n < 80 {
+        return text(p, between(all, 0, n));
+    }
+    text(p, all)
 }
 
 // How many decimal digits a number has.

@@ -203,6 +203,14 @@ pub fn row_of(value: u64, base: u64, step: u64) -> usize
     ((value - base) / step) as usize
 }
 
+// The readings of a place.
+pub fn stretch_at(values: &[u64], present: &[u8], per: usize, x: usize) -> Stretch {
+    let n = values.len();
+    let a = first_of(x, per, n);
+    let e = first_of(after(x), per, n);
+    stretch_of(values, present, a, e)
+}
+
 // The scale for all of a list, over so many places at most. Booleans have a row each.
 pub fn scale_for(all: Stretch, kind: Kind, n: usize, width: usize) -> Scale {
     let per = per_place(n, width);

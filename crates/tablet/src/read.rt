@@ -2,7 +2,6 @@
 use crate::column;
 use crate::column::Column;
 use crate::files;
-use crate::files::Got;
 use crate::help;
 use crate::kinds;
 use crate::kinds::Kind;
@@ -76,11 +75,11 @@ fn read_block(path: &[u8], block: &[u8], position: usize, desk: Desk) -> bool {
 
 fn read_file(path: &[u8], position: usize, desk: Desk) -> bool {
     let mut block = rooms::block();
-    match files::read(path, &mut block, desk) {
-        Got::Bytes(n) => read_block(path, between(&block, 0, n), position, desk),
-        Got::TooLarge => false,
-        Got::Failed(_) => false,
+    let n = files::read(path, &mut block, desk);
+    if n == files::FAILED {
+        return false;
     }
+    read_block(path, between(&block, 0, n), position, desk)
 }
 
 pub fn run(line: &[u8], desk: Desk) -> bool {

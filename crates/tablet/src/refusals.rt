@@ -1,103 +1,57 @@
 // Document 01's refusals in words. Each text stands here once.
 use crate::pen;
 use crate::pen::Pen;
+use crate::words;
 
-// 1: inside a number, or where one is due.
-fn say_end(p: Pen, place: usize, len: usize) -> Pen {
-    if place == len {
-        return pen::text(p, b"the bytes end before the number that is due");
-    }
-    pen::text(p, b"the bytes end inside the number")
-}
-
-// What is amiss in bytes.
-fn say_bytes(p: Pen, number: u8) -> Pen {
-    match number {
-        2 => pen::text(p, b"a number is too large for its type"),
-        3 => pen::text(p, b"a number is longer than it need be"),
-        4 => pen::text(p, b"a zero stands where none may be"),
-        5 => pen::text(p, b"the list passes 4,294,967,295 readings"),
-        _ => pen::text(p, b"the sum of the differences leaves 64 bits"),
-    }
-}
-
-// What is amiss in a list, and where room is short.
-fn say_list(p: Pen, number: u8) -> Pen {
-    match number {
-        7 => pen::text(
-            p,
-            b"the step from the reading before is too large to be written",
-        ),
-        8 => pen::text(p, b"the lists do not fit together"),
-        9 => pen::text(
-            p,
-            b"the column has more than the 32,768 readings that this tool takes",
-        ),
-        _ => pen::text(
-            p,
-            b"the new block is larger than the 262,144 bytes that this tool takes",
-        ),
-    }
-}
-
-fn say_table(p: Pen, number: u8) -> Pen {
-    match number {
-        11 => pen::text(p, b"there are more than 64 columns"),
-        12 => pen::text(
-            p,
-            b"the columns are not in order: by the id's remainder by 16, then by type",
-        ),
-        13 => pen::text(p, b"a column is compressed"),
-        14 => pen::text(p, b"the columns are longer than the data"),
-        _ => pen::text(p, b"the columns are shorter than the data"),
-    }
-}
-
-fn say_call(p: Pen, number: u8) -> Pen {
-    match number {
-        16 => pen::text(p, b"there is no column at this position"),
-        17 => pen::text(p, b"columns of this type are not read here"),
-        18 => pen::text(
-            p,
-            b"the range ends before it starts, or starts behind the list",
-        ),
-        19 => pen::text(p, b"an id is at most 268,435,455"),
-        _ => pen::text(p, b"refused"),
-    }
-}
-
-fn say_words(p: Pen, number: u8, place: usize, len: usize) -> Pen {
-    if number == 1 {
-        return say_end(p, place, len);
-    }
-    if number < 7 {
-        return say_bytes(p, number);
-    }
-    if number < 11 {
-        return say_list(p, number);
-    }
-    if number < 16 {
-        return say_table(p, number);
-    }
-    say_call(p, number)
+// Refusal n is word n.
+fn say_words(p: Pen, number: u8) -> Pen {
+    let all = b"refused\0\
+the bytes end inside the number\0\
+a number is too large for its type\0\
+a number is longer than it need be\0\
+a zero stands where none may be\0\
+the list passes 4,294,967,295 readings\0\
+the sum of the differences leaves 64 bits\0\
+the step from the reading before is too large to be written\0\
+the lists do not fit together\0\
+the column has more than the 32,768 readings that this tool takes\0\
+the new block is larger than the 262,144 bytes that this tool takes\0\
+there are more than 64 columns\0\
+the columns are not in order: by the id's remainder by 16, then by type\0\
+a column is compressed\0\
+the columns are longer than the data\0\
+the columns are shorter than the data\0\
+there is no column at this position\0\
+columns of this type are not read here\0\
+the range ends before it starts, or starts behind the list\0\
+an id is at most 268,435,455\0";
+    pen::text(p, words::word(all, number as usize))
 }
 
 // Places inside bytes are bytes, and those inside a list are indices; the other refusals have none.
 fn say_place(p: Pen, number: u8, place: usize) -> Pen {
+    let n = number as u64;
     if number < 7 {
-        return pen::count(pen::text(p, b" at byte "), place);
+        return pen::form(p, b" at byte % (refusal %)", place as u64, n, 0, 0);
     }
     if number == 7 {
-        return pen::count(pen::text(p, b", at reading "), place);
+        return pen::form(p, b", at reading % (refusal %)", place as u64, n, 0, 0);
     }
-    p
+    pen::form(p, b" (refusal %)", n, 0, 0, 0)
 }
 
-// A refusal in words, with its place and its number. Of 1, `len` is how many bytes there are.
+// A refusal in words, with its place and its number. Where 1 has the end of all `len` bytes as its place, a number was due there.
 pub fn say(p: Pen, number: u8, place: usize, len: usize) -> Pen {
-    let words = say_place(say_words(p, number, place, len), number, place);
-    let numbered = pen::number(pen::text(words, b" (refusal "), number as u64);
-    pen::text(numbered, b")")
+    if number == 1 {
+        if place == len {
+            return say_place(
+                pen::text(p, b"the bytes end before the number that is due"),
+                number,
+                place,
+            );
+        }
+    }
+    say_place(say_words(p, number), number, place)
 }
 
 // A refusal of a table. What is amiss in its bytes is said to be the table's.

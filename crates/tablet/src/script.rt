@@ -1,7 +1,6 @@
 // tablet script FILE: each line of a file as a command. What goes wrong is written in its place among the rest.
 use crate::commands;
 use crate::files;
-use crate::files::Got;
 use crate::help;
 use crate::pen;
 use crate::pen::Desk;
@@ -111,9 +110,14 @@ fn judge(t: Tally) -> bool {
     if t.wrong == 0 {
         return true;
     }
-    let p = pen::count(pen::text(pen::on(2), b"tablet: "), t.wrong);
-    let q = pen::count(pen::text(p, b" of "), t.run);
-    pen::text(q, b" commands were refused\n");
+    pen::form(
+        pen::on(2),
+        b"tablet: commands that were refused: % of %\n",
+        t.wrong as u64,
+        t.run as u64,
+        0,
+        0,
+    );
     false
 }
 
@@ -123,9 +127,9 @@ pub fn run(line: &[u8]) -> bool {
         return help::wrong(b"script FILE", desk);
     }
     let mut s = rooms::block();
-    match files::read(words::word(line, 1), &mut s, desk) {
-        Got::Bytes(n) => judge(run_lines(between(&s, 0, n), Desk { out: 1, notes: 1 })),
-        Got::TooLarge => false,
-        Got::Failed(_) => false,
+    let n = files::read(words::word(line, 1), &mut s, desk);
+    if n == files::FAILED {
+        return false;
     }
+    judge(run_lines(between(&s, 0, n), Desk { out: 1, notes: 1 }))
 }

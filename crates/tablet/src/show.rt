@@ -1,7 +1,6 @@
 // tablet show FILE: the table, a row a column.
 use crate::column;
 use crate::files;
-use crate::files::Got;
 use crate::help;
 use crate::kinds;
 use crate::kinds::Kind;
@@ -21,28 +20,21 @@ struct Shown {
     bad: usize,
 }
 
-fn say_head(p: Pen) -> Pen {
-    let q = pen::padded(pen::padded(p, b"position", 10), b"specification", 15);
-    let r = pen::padded(pen::padded(q, b"id", 11), b"type", 16);
-    pen::text(pen::padded(r, b"bytes", 8), b"readings\n")
-}
-
-fn say_spec(p: Pen, spec: u32) -> Pen {
-    let q = pen::hex(pen::text(p, b"0x"), spec as u64);
-    pen::blanks(q, pen::short_of(hex_digits(spec), 13))
+// A row up to its readings.
+fn say_row(p: Pen, position: usize, spec: u32, len: usize) -> Pen {
+    let q = pen::text(pen::padded_number(p, position as u64, 10), b"0x");
+    let r = pen::blanks(
+        pen::hex(q, spec as u64),
+        pen::short_of(hex_digits(spec), 13),
+    );
+    let t = kinds::say(pen::padded_number(r, kinds::id(spec), 11), spec, 16);
+    pen::padded_number(t, len as u64, 8)
 }
 
 // How many hex digits a specification is shown with, at least 2.
-pub fn hex_digits(spec: u32) -> usize {
+fn hex_digits(spec: u32) -> usize {
     let mut room = [0u8; 16];
     io::hex(spec as u64, 2, &mut room)
-}
-
-// A row up to its readings.
-fn say_row(p: Pen, position: usize, spec: u32, len: usize) -> Pen {
-    let q = say_spec(pen::padded_number(p, position as u64, 10), spec);
-    let r = pen::padded_number(q, kinds::id(spec), 11);
-    pen::padded_number(kinds::say(r, spec, 16), len as u64, 8)
 }
 
 // How many readings a column has, or the refusal in words.
@@ -55,7 +47,7 @@ fn say_readings(p: Pen, part: &[u8], kind: Kind) -> Shown {
     }
     match load::count(part, kind) {
         Answer::Done(n) => Shown {
-            pen: pen::text(pen::number(p, n), b"\n"),
+            pen: pen::form(p, b"%\n", n, 0, 0, 0),
             bad: 0,
         },
         Answer::Refused(number, place) => Shown {
@@ -106,8 +98,14 @@ fn judge(path: &[u8], s: Shown, desk: Desk) -> bool {
     if s.bad == 0 {
         return pen::finish(s.pen, desk);
     }
-    let p = pen::count(files::about(path, desk), s.bad);
-    pen::text(p, b" of its columns do not read\n");
+    pen::form(
+        files::about(path, desk),
+        b"columns that do not read: %\n",
+        s.bad as u64,
+        0,
+        0,
+        0,
+    );
     false
 }
 
@@ -118,20 +116,20 @@ fn show_block(path: &[u8], block: &[u8], desk: Desk) -> bool {
         return false;
     }
     let t = o.table;
-    judge(
-        path,
-        show_columns(say_head(pen::on(desk.out)), block, t.rows),
-        desk,
-    )
+    let head = pen::text(
+        pen::on(desk.out),
+        b"position  specification  id         type            bytes   readings\n",
+    );
+    judge(path, show_columns(head, block, t.rows), desk)
 }
 
 fn show_file(path: &[u8], desk: Desk) -> bool {
     let mut block = rooms::block();
-    match files::read(path, &mut block, desk) {
-        Got::Bytes(n) => show_block(path, between(&block, 0, n), desk),
-        Got::TooLarge => false,
-        Got::Failed(_) => false,
+    let n = files::read(path, &mut block, desk);
+    if n == files::FAILED {
+        return false;
     }
+    show_block(path, between(&block, 0, n), desk)
 }
 
 pub fn run(line: &[u8], desk: Desk) -> bool {

@@ -2,7 +2,6 @@
 use crate::column;
 use crate::column::Column;
 use crate::files;
-use crate::files::Got;
 use crate::help;
 use crate::kinds;
 use crate::load;
@@ -29,9 +28,9 @@ fn with_refusal(l: Line, position: usize, number: u8, place: usize, len: usize) 
     } else {
         pen::text(l.pen, b"; ")
     };
-    let q = pen::count(pen::text(p, b"column "), position);
+    let q = pen::form(p, b"column %: ", position as u64, 0, 0, 0);
     Line {
-        pen: refusals::say(pen::text(q, b": "), number, place, len),
+        pen: refusals::say(q, number, place, len),
         sound: false,
     }
 }
@@ -71,8 +70,7 @@ fn judge_columns(p: Pen, block: &[u8], rows: usize) -> Line {
 
 fn end_line(l: Line, rows: usize) -> bool {
     if l.sound {
-        let p = pen::count(pen::text(l.pen, b"sound, "), rows);
-        pen::text(p, b" columns\n");
+        pen::form(l.pen, b"sound, columns: %\n", rows as u64, 0, 0, 0);
         return true;
     }
     pen::text(l.pen, b"\n");
@@ -94,14 +92,12 @@ fn judge_block(p: Pen, block: &[u8]) -> bool {
 
 fn judge_file(path: &[u8], desk: Desk) -> bool {
     let mut block = rooms::block();
-    match files::read(path, &mut block, desk) {
-        Got::Bytes(n) => {
-            let p = pen::text(pen::text(pen::on(desk.out), path), b": ");
-            judge_block(p, between(&block, 0, n))
-        }
-        Got::TooLarge => false,
-        Got::Failed(_) => false,
+    let n = files::read(path, &mut block, desk);
+    if n == files::FAILED {
+        return false;
     }
+    let p = pen::text(pen::text(pen::on(desk.out), path), b": ");
+    judge_block(p, between(&block, 0, n))
 }
 
 fn judge_files(line: &[u8], all: usize, desk: Desk) -> usize {
@@ -125,8 +121,13 @@ pub fn run(line: &[u8], desk: Desk) -> bool {
     if bad == 0 {
         return true;
     }
-    let p = pen::count(pen::text(pen::on(desk.notes), b"tablet: "), bad);
-    let q = pen::count(pen::text(p, b" of "), pen::short_of(1, all));
-    pen::text(q, b" files are not sound\n");
+    pen::form(
+        pen::on(desk.notes),
+        b"tablet: files that are not sound: % of %\n",
+        bad as u64,
+        pen::short_of(1, all) as u64,
+        0,
+        0,
+    );
     false
 }

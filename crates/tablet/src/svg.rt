@@ -11,44 +11,42 @@ use crate::picture;
 use crate::picture::Scale;
 use crate::picture::Stretch;
 use crate::refusals;
-use crate::text::after;
 use crate::text::byte_at;
 
 // How many places across the picture has at most.
 const WIDTH: usize = 680;
 
-// The height of the picture in units: of the depths, and of the trace itself.
+// The height of the picture in units: how many depths a unit has, the height of the trace itself, and all of it.
 struct Height {
     unit: u64,
-    depths: u64,
     trace: u64,
-}
-
-fn height_for(base: u64, high: u64) -> Height {
-    let range = picture::apart(base, high);
-    let unit = range / 2800 + 1;
-    let depths = range / unit;
-    Height {
-        unit,
-        depths,
-        trace: plus(depths / 50, 1),
-    }
-}
-
-// How many units below the top a depth lies.
-fn down(value: u64, base: u64, h: Height) -> u64 {
-    if h.unit == 0 {
-        return 0;
-    }
-    picture::apart(base, value) / h.unit
-}
-
-fn all_units(h: Height) -> u64 {
-    plus(plus(h.depths, h.trace), h.trace)
+    all: u64,
 }
 
 fn plus(a: u64, b: u64) -> u64 {
     if b <= u64::MAX - a { a + b } else { u64::MAX }
+}
+
+// From one depth to another. Below the deepest trace there is as much clay; a yes or no has none.
+fn height_for(base: u64, high: u64, kind: Kind) -> Height {
+    let range = picture::apart(base, high);
+    let unit = range / 2800 + 1;
+    let depths = range / unit;
+    let trace = plus(depths / 50, 1);
+    let below = if kinds::is_yes_no(kind) { 0 } else { trace };
+    Height {
+        unit,
+        trace,
+        all: plus(plus(depths, trace), below),
+    }
+}
+
+// How many units below the top a depth lies.
+fn down(value: u64, base: u64, unit: u64) -> u64 {
+    if unit == 0 {
+        return 0;
+    }
+    picture::apart(base, value) / unit
 }
 
 // Text between tags.
@@ -103,15 +101,11 @@ fn head(p: Pen) -> Pen {
 // The title: the file's name is escaped, the rest needs none.
 fn title(p: Pen, path: &[u8], s: Subject) -> Pen {
     let q = escaped(pen::text(p, b"<title>"), path);
-    let r = pen::count(pen::text(q, b", column "), s.position);
-    let t = escaped(
-        pen::text(
-            r,
-            b"</title>\n<text class=\"ink\" x=\"90\" y=\"28\" font-size=\"16\">",
-        ),
-        path,
+    let r = pen::text(
+        q,
+        b"</title>\n<text class=\"ink\" x=\"90\" y=\"28\" font-size=\"16\">",
     );
-    pen::text(draw::say_subject(t, b"", s), b"</text>\n")
+    pen::text(draw::say_subject(escaped(r, path), b"", s), b"</text>\n")
 }
 
 fn facts(p: Pen, kind: Kind, all: Stretch) -> Pen {
@@ -119,57 +113,50 @@ fn facts(p: Pen, kind: Kind, all: Stretch) -> Pen {
     pen::text(draw::say_facts(q, kind, all), b"</text>\n")
 }
 
-fn attribute(p: Pen, name: &[u8], value: u64) -> Pen {
-    pen::text(pen::number(pen::text(p, name), value), b"\"")
-}
-
 // A part of a place, by its class, in units.
 fn part(p: Pen, class: &[u8], x: u64, y: u64, tall: u64) -> Pen {
-    let q = pen::text(pen::text(p, b"<rect class=\""), class);
-    let r = attribute(attribute(q, b"\" x=\"", x), b" y=\"", y);
-    pen::text(attribute(r, b" width=\"1\" height=\"", tall), b"/>\n")
+    pen::form(
+        pen::text(pen::text(p, b"<rect class=\""), class),
+        b"\" x=\"%\" y=\"%\" width=\"1\" height=\"%\"/>\n",
+        x,
+        y,
+        tall,
+        0,
+    )
 }
 
-fn class_of(p: Pen, s: Stretch, x: u64, y: u64, tall: u64) -> Pen {
-    if s.gone == 0 {
+fn trace(p: Pen, gone: usize, x: u64, y: u64, tall: u64) -> Pen {
+    if gone == 0 {
         return part(p, b"trace", x, y, tall);
     }
     part(p, b"part", x, y, tall)
 }
 
 // One place across: its trace, and the clay below.
-fn place(p: Pen, kind: Kind, base: u64, h: Height, x: u64, s: Stretch) -> Pen {
+fn place(p: Pen, base: u64, h: Height, x: u64, s: Stretch) -> Pen {
     if s.here == 0 {
         return p;
     }
-    let top = down(s.low, base, h);
-    let end = plus(down(s.high, base, h), h.trace);
-    let q = class_of(p, s, x, top, picture::apart(top, end));
-    if kinds::is_yes_no(kind) {
-        return q;
-    }
-    part(q, b"clay", x, end, picture::apart(end, all_units(h)))
+    let top = down(s.low, base, h.unit);
+    let end = plus(down(s.high, base, h.unit), h.trace);
+    let q = trace(p, s.gone, x, top, picture::apart(top, end));
+    part(q, b"clay", x, end, picture::apart(end, h.all))
 }
 
-fn stretch_at(values: &[u64], present: &[u8], c: Scale, x: usize) -> Stretch {
-    let n = values.len();
-    let a = picture::first_of(x, c.per, n);
-    let e = picture::first_of(after(x), c.per, n);
-    picture::stretch_of(values, present, a, e)
+// A yes or no has no clay.
+fn place_of(p: Pen, kind: Kind, base: u64, h: Height, x: u64, s: Stretch) -> Pen {
+    if kinds::is_yes_no(kind) {
+        return trace(p, 0, x, s.low, plus(picture::apart(s.low, s.high), 1));
+    }
+    place(p, base, h, x, s)
 }
 
 fn places(p: Pen, kind: Kind, c: Scale, h: Height, values: &[u64], present: &[u8]) -> Pen {
     let mut q = p;
     let mut x = 0;
     while x < c.places {
-        q = place(
-            q,
-            kind,
-            c.base,
-            h,
-            x as u64,
-            stretch_at(values, present, c, x),
-        );
+        let s = picture::stretch_at(values, present, c.per, x);
+        q = place_of(q, kind, c.base, h, x as u64, s);
         x += 1;
     }
     q
@@ -177,23 +164,21 @@ fn places(p: Pen, kind: Kind, c: Scale, h: Height, values: &[u64], present: &[u8
 
 // The drawing of the readings, stretched over the page.
 fn drawing(p: Pen, kind: Kind, c: Scale, h: Height, values: &[u64], present: &[u8]) -> Pen {
-    let q = pen::text(
+    let q = pen::form(
         p,
-        b"<svg x=\"90\" y=\"70\" width=\"680\" height=\"280\" preserveAspectRatio=\"none\" shape-rendering=\"crispEdges\"",
+        b"<svg x=\"90\" y=\"70\" width=\"680\" height=\"280\" preserveAspectRatio=\"none\" shape-rendering=\"crispEdges\" viewBox=\"0 0 % %\">\n",
+        c.places as u64,
+        h.all,
+        0,
+        0,
     );
-    let r = pen::count(pen::text(q, b" viewBox=\"0 0 "), c.places);
-    let t = attribute(r, b" ", all_units(h));
-    pen::text(
-        places(pen::text(t, b">\n"), kind, c, h, values, present),
-        b"</svg>\n",
-    )
+    pen::text(places(q, kind, c, h, values, present), b"</svg>\n")
 }
 
 // Where on the page the middle of a trace at a depth lies.
 fn page_y(depth: u64, base: u64, h: Height) -> u64 {
-    let units = all_units(h);
-    let y = down(depth, base, h);
-    if units == 0 {
+    let y = down(depth, base, h.unit);
+    if h.all == 0 {
         return 70;
     }
     if 100000 < y {
@@ -202,25 +187,20 @@ fn page_y(depth: u64, base: u64, h: Height) -> u64 {
     if 100000 < h.trace {
         return 70;
     }
-    plus(70, (y * 280 + h.trace * 140) / units)
+    plus(70, (y * 280 + h.trace * 140) / h.all)
 }
 
 // A line across the page at a depth, with the depth beside it.
 fn level(p: Pen, kind: Kind, depth: u64, y: u64) -> Pen {
-    let q = attribute(
-        attribute(p, b"<line class=\"grid\" x1=\"84\" x2=\"770\" y1=\"", y),
-        b" y2=\"",
+    let q = pen::form(
+        p,
+        b"<line class=\"grid\" x1=\"84\" x2=\"770\" y1=\"%\" y2=\"%\"/>\n<text class=\"faint\" x=\"78\" text-anchor=\"end\" dy=\"4\" y=\"%\">",
         y,
-    );
-    let r = attribute(
-        pen::text(
-            q,
-            b"/>\n<text class=\"faint\" x=\"78\" text-anchor=\"end\" dy=\"4\"",
-        ),
-        b" y=\"",
         y,
+        y,
+        0,
     );
-    pen::text(numbers::say(pen::text(r, b">"), kind, depth), b"</text>\n")
+    pen::text(numbers::say(q, kind, depth), b"</text>\n")
 }
 
 fn levels(p: Pen, kind: Kind, c: Scale, h: Height) -> Pen {
@@ -235,23 +215,6 @@ fn levels(p: Pen, kind: Kind, c: Scale, h: Height) -> Pen {
 }
 
 // A mark below the drawing where readings are absent.
-fn gaps(p: Pen, c: Scale, values: &[u64], present: &[u8]) -> Pen {
-    let q = pen::count(
-        pen::text(
-            p,
-            b"<svg x=\"90\" y=\"352\" width=\"680\" height=\"6\" preserveAspectRatio=\"none\" shape-rendering=\"crispEdges\" viewBox=\"0 0 ",
-        ),
-        c.places,
-    );
-    let mut r = pen::text(q, b" 1\">\n");
-    let mut x = 0;
-    while x < c.places {
-        r = gap(r, x as u64, stretch_at(values, present, c, x));
-        x += 1;
-    }
-    pen::text(r, b"</svg>\n")
-}
-
 fn gap(p: Pen, x: u64, s: Stretch) -> Pen {
     if s.gone == 0 {
         return p;
@@ -262,33 +225,44 @@ fn gap(p: Pen, x: u64, s: Stretch) -> Pen {
     part(p, b"part", x, 0, 1)
 }
 
-// The axes and what they stand for.
-fn axes(p: Pen, kind: Kind, c: Scale, n: usize) -> Pen {
-    let q = pen::text(
+fn gaps(p: Pen, c: Scale, values: &[u64], present: &[u8]) -> Pen {
+    let mut q = pen::form(
         p,
-        b"<path class=\"axis\" d=\"M90 70V350H770\"/>\n<text class=\"faint\" x=\"90\" y=\"374\">0</text>\n<text class=\"faint\" x=\"770\" y=\"374\" text-anchor=\"end\">",
+        b"<svg x=\"90\" y=\"352\" width=\"680\" height=\"6\" preserveAspectRatio=\"none\" shape-rendering=\"crispEdges\" viewBox=\"0 0 % 1\">\n",
+        c.places as u64,
+        0,
+        0,
+        0,
     );
-    let r = pen::count(q, pen::short_of(1, n));
-    let t = pen::text(
-        r,
-        b"</text>\n<text class=\"faint\" x=\"430\" y=\"374\" text-anchor=\"middle\">index of the reading, ",
-    );
-    let u = pen::text(pen::count(t, c.per), b" to a place across</text>\n");
-    unit(u, kind)
+    let mut x = 0;
+    while x < c.places {
+        q = gap(q, x as u64, picture::stretch_at(values, present, c.per, x));
+        x += 1;
+    }
+    pen::text(q, b"</svg>\n")
 }
 
-fn unit(p: Pen, kind: Kind) -> Pen {
+// The axes and what they stand for.
+fn axes(p: Pen, kind: Kind, per: usize, n: usize) -> Pen {
+    let q = pen::form(
+        p,
+        b"<path class=\"axis\" d=\"M90 70V350H770\"/>\n<text class=\"faint\" x=\"90\" y=\"374\">0</text>\n<text class=\"faint\" x=\"770\" y=\"374\" text-anchor=\"end\">%</text>\n<text class=\"faint\" x=\"430\" y=\"374\" text-anchor=\"middle\">index of the reading, % to a place across</text>\n",
+        pen::short_of(1, n) as u64,
+        per as u64,
+        0,
+        0,
+    );
     if kinds::is_yes_no(kind) {
-        return p;
+        return q;
     }
     pen::text(
-        p,
+        q,
         b"<text class=\"faint\" transform=\"translate(20 210) rotate(-90)\" text-anchor=\"middle\">depth in \xc2\xb5m, downward</text>\n",
     )
 }
 
-fn legend(p: Pen, all: Stretch) -> Pen {
-    if all.gone == 0 {
+fn legend(p: Pen, gone: usize) -> Pen {
+    if gone == 0 {
         return p;
     }
     pen::text(
@@ -299,27 +273,17 @@ fn legend(p: Pen, all: Stretch) -> Pen {
     )
 }
 
+// How far down the picture reaches. Booleans have both their levels.
+fn lowest(kind: Kind, high: u64) -> u64 {
+    if kinds::is_yes_no(kind) { 1 } else { high }
+}
+
 fn picture_of(p: Pen, kind: Kind, all: Stretch, values: &[u64], present: &[u8]) -> Pen {
     let c = picture::scale_for(all, kind, values.len(), WIDTH);
-    let h = height_for(c.base, lowest(kind, all));
+    let h = height_for(c.base, lowest(kind, all.high), kind);
     let q = drawing(levels(p, kind, c, h), kind, c, h, values, present);
     let r = gaps(q, c, values, present);
-    legend(axes(r, kind, c, values.len()), all)
-}
-
-// How far down the picture reaches. Booleans have both their levels.
-fn lowest(kind: Kind, all: Stretch) -> u64 {
-    if kinds::is_yes_no(kind) { 1 } else { all.high }
-}
-
-fn body(p: Pen, kind: Kind, all: Stretch, values: &[u64], present: &[u8]) -> Pen {
-    if all.here == 0 {
-        return pen::text(
-            p,
-            b"<text class=\"ink\" x=\"90\" y=\"200\">there is no depth to draw</text>\n",
-        );
-    }
-    picture_of(p, kind, all, values, present)
+    legend(axes(r, kind, c.per, values.len()), all.gone)
 }
 
 // A column that reads.
@@ -327,7 +291,13 @@ pub fn picture(p: Pen, path: &[u8], s: Subject, values: &[u64], present: &[u8]) 
     let kind = kinds::of_spec(s.spec);
     let all = picture::stretch_of(values, present, 0, values.len());
     let q = facts(title(head(p), path, s), kind, all);
-    pen::text(body(q, kind, all, values, present), b"</svg>\n")
+    if all.here == 0 {
+        return pen::text(
+            q,
+            b"<text class=\"ink\" x=\"90\" y=\"200\">there is no depth to draw</text>\n</svg>\n",
+        );
+    }
+    pen::text(picture_of(q, kind, all, values, present), b"</svg>\n")
 }
 
 // A column that does not read: no clay, and no reading.
@@ -336,9 +306,8 @@ pub fn fracture(p: Pen, path: &[u8], s: Subject, number: u8, place: usize) -> Pe
         title(head(p), path, s),
         b"<path class=\"crack\" d=\"M90 190l40 50 40-50 40 50 40-50 40 50 40-50 40 50 40-50 40 50 40-50 40 50 40-50 40 50 40-50 40 50 40-50 40 50\"/>\n<text class=\"ink\" x=\"90\" y=\"150\" font-size=\"16\">Broken: ",
     );
-    let r = refusals::say(q, number, place, s.len);
     pen::text(
-        r,
+        refusals::say(q, number, place, s.len),
         b"</text>\n<text class=\"faint\" x=\"90\" y=\"290\">No reading is drawn: a column reads whole or not at all.</text>\n</svg>\n",
     )
 }

@@ -1,4 +1,6 @@
 // The picture in the terminal: a row a step of depth, a place across for one or more readings. Depth grows downward, as in clay.
+ghost use mathlib.Core.Path.{_≡_};
+ghost use Rattle.tablet.specs.Picture.{shadeOf};
 use crate::draw;
 use crate::draw::Subject;
 use crate::kinds;
@@ -26,67 +28,69 @@ fn cell(places: usize) -> usize {
     1
 }
 
-// The first n of four signs of three bytes each.
-fn signs(p: Pen, four: &[u8], n: usize) -> Pen {
-    if n < 5 {
-        return pen::text(p, between(four, 0, 3 * n));
+// What stands at a place of a row: 0 air or a gap, 1 the trace of readings, 2 the trace where some are absent, 3 clay below it. The trace
+// goes from the row `top` to the row `bottom`; `here` and `gone` are how many readings are present and absent.
+fn shade(row: usize, top: usize, bottom: usize, here: usize, gone: usize) -> usize
+    ensures { λ r. ⌜ r ≡ shadeOf row top bottom here gone ⌝ }
+{
+    if here == 0 {
+        return 0;
     }
-    p
+    if row < top {
+        return 0;
+    }
+    if bottom < row {
+        return 3;
+    }
+    if gone == 0 {
+        return 1;
+    }
+    2
 }
 
-fn trace(p: Pen, s: Stretch, n: usize) -> Pen {
-    if s.gone == 0 {
-        return signs(p, b"\xe2\x96\x88\xe2\x96\x88\xe2\x96\x88\xe2\x96\x88", n);
-    }
-    signs(p, b"\xe2\x96\x92\xe2\x96\x92\xe2\x96\x92\xe2\x96\x92", n)
+fn shade_at(c: Scale, row: usize, s: Stretch) -> usize {
+    let top = picture::row_of(s.low, c.base, c.step);
+    let bottom = picture::row_of(s.high, c.base, c.step);
+    shade(row, top, bottom, s.here, s.gone)
 }
 
-// Below the trace there is clay; a yes or no has none.
-fn below(p: Pen, kind: Kind, n: usize) -> Pen {
+// A shade, so many characters of three bytes each wide; 4 is the ruler.
+fn sign(p: Pen, shade: usize, n: usize) -> Pen {
+    if shade == 0 {
+        return pen::blanks(p, n);
+    }
+    if 4 < shade {
+        return p;
+    }
+    if 4 < n {
+        return p;
+    }
+    let all =
+        b"\xe2\x96\x88\xe2\x96\x88\xe2\x96\x88\xe2\x96\x88\xe2\x96\x92\xe2\x96\x92\xe2\x96\x92\xe2\x96\x92\xe2\x96\x91\xe2\x96\x91\xe2\x96\x91\xe2\x96\x91\xe2\x94\x80\xe2\x94\x80\xe2\x94\x80\xe2\x94\x80";
+    let at = 12 * (shade - 1);
+    pen::text(p, between(all, at, at + 3 * n))
+}
+
+// A yes or no has no clay.
+fn clay(kind: Kind, shade: usize) -> usize {
     if kinds::is_yes_no(kind) {
-        return pen::blanks(p, n);
+        if shade == 3 {
+            return 0;
+        }
     }
-    signs(p, b"\xe2\x96\x91\xe2\x96\x91\xe2\x96\x91\xe2\x96\x91", n)
-}
-
-// One place of one row: air above the trace, clay below it, and nothing at all where every reading is absent.
-fn place(p: Pen, kind: Kind, c: Scale, row: usize, s: Stretch) -> Pen {
-    let n = cell(c.places);
-    if s.here == 0 {
-        return pen::blanks(p, n);
-    }
-    if row < picture::row_of(s.low, c.base, c.step) {
-        return pen::blanks(p, n);
-    }
-    if row <= picture::row_of(s.high, c.base, c.step) {
-        return trace(p, s, n);
-    }
-    below(p, kind, n)
-}
-
-// The readings of a place.
-fn stretch_at(values: &[u64], present: &[u8], c: Scale, x: usize) -> Stretch {
-    let n = values.len();
-    let a = picture::first_of(x, c.per, n);
-    let e = picture::first_of(after(x), c.per, n);
-    picture::stretch_of(values, present, a, e)
+    shade
 }
 
 fn row(p: Pen, kind: Kind, c: Scale, row: usize, values: &[u64], present: &[u8]) -> Pen {
+    let n = cell(c.places);
     let mut q = p;
     let mut x = 0;
     while x < c.places {
-        q = place(q, kind, c, row, stretch_at(values, present, c, x));
+        let s = picture::stretch_at(values, present, c.per, x);
+        q = sign(q, clay(kind, shade_at(c, row, s)), n);
         x += 1;
     }
     pen::text(q, b"\n")
-}
-
-// How wide the depths are that stand beside the rows.
-fn label_width(kind: Kind, c: Scale, all: Stretch) -> usize {
-    let first = numbers::width(kind, c.base);
-    let last = numbers::width(kind, all.high);
-    if first < last { last } else { first }
 }
 
 fn label(p: Pen, kind: Kind, c: Scale, row: usize, width: usize) -> Pen {
@@ -105,38 +109,17 @@ fn rows(p: Pen, kind: Kind, c: Scale, width: usize, values: &[u64], present: &[u
     q
 }
 
-// One place of the ruler below: a gap where every reading is absent.
-fn tick(p: Pen, c: Scale, s: Stretch) -> Pen {
+// The ruler below has a gap where every reading of a place is absent.
+fn ruler(p: Pen, c: Scale, values: &[u64], present: &[u8]) -> Pen {
     let n = cell(c.places);
-    if s.here == 0 {
-        return pen::blanks(p, n);
-    }
-    signs(p, b"\xe2\x94\x80\xe2\x94\x80\xe2\x94\x80\xe2\x94\x80", n)
-}
-
-fn ruler(p: Pen, c: Scale, width: usize, values: &[u64], present: &[u8]) -> Pen {
-    let mut q = pen::text(pen::blanks(p, width), b" +");
+    let mut q = pen::text(p, b" +");
     let mut x = 0;
     while x < c.places {
-        q = tick(q, c, stretch_at(values, present, c, x));
+        let s = picture::stretch_at(values, present, c.per, x);
+        q = sign(q, if s.here == 0 { 0 } else { 4 }, n);
         x += 1;
     }
     pen::text(q, b"\n")
-}
-
-// The first and the last index, below the ends of the ruler.
-fn indices(p: Pen, c: Scale, width: usize, n: usize) -> Pen {
-    let q = pen::text(pen::blanks(pen::blanks(p, width), 2), b"0");
-    if n < 2 {
-        return pen::text(q, b"\n");
-    }
-    let last = pen::short_of(1, n);
-    let used = after(pen::digits(last as u64));
-    let wide = across(c.places);
-    pen::text(
-        pen::count(pen::blanks(q, pen::short_of(used, wide)), last),
-        b"\n",
-    )
 }
 
 // How many characters all places take.
@@ -150,39 +133,57 @@ fn across(places: usize) -> usize {
     places
 }
 
-// What a place and a row stand for.
-fn legend(p: Pen, kind: Kind, c: Scale, all: Stretch) -> Pen {
-    let q = pen::count(pen::text(p, b"across: the index, "), c.per);
-    let r = pen::text(q, b" to a place");
-    let t = if kinds::is_yes_no(kind) {
-        r
-    } else {
-        step(r, c.step)
-    };
-    let u = if all.gone == 0 {
-        t
-    } else {
-        pen::text(t, b"; gaps: absent readings")
-    };
-    let v = if c.per == 1 {
-        u
-    } else {
-        pen::text(u, b"; \xe2\x96\x92: some of them absent")
-    };
-    pen::text(v, b"\n")
+// The first and the last index, below the ends of the ruler.
+fn indices(p: Pen, c: Scale, n: usize) -> Pen {
+    let q = pen::text(p, b"  0");
+    if n < 2 {
+        return pen::text(q, b"\n");
+    }
+    let last = pen::short_of(1, n) as u64;
+    let used = after(pen::digits(last));
+    let r = pen::blanks(q, pen::short_of(used, across(c.places)));
+    pen::form(r, b"%\n", last, 0, 0, 0)
 }
 
-fn step(p: Pen, n: u64) -> Pen {
-    let q = pen::number(pen::text(p, b"; down: the depth, "), n);
-    pen::text(q, b" \xc2\xb5m to a row")
+// What a place and a row stand for, and the gaps where there are any.
+fn legend(p: Pen, kind: Kind, c: Scale, gone: usize) -> Pen {
+    let per = c.per as u64;
+    let q = pen::form(p, b"across: the index, % to a place", per, 0, 0, 0);
+    let r = if kinds::is_yes_no(kind) {
+        q
+    } else {
+        say_step(q, c.step)
+    };
+    if gone == 0 {
+        return pen::text(r, b"\n");
+    }
+    if per == 1 {
+        return pen::text(r, b"; gaps: absent readings\n");
+    }
+    pen::text(
+        r,
+        b"; gaps: absent readings; \xe2\x96\x92: some of a place's absent\n",
+    )
+}
+
+fn say_step(p: Pen, step: u64) -> Pen {
+    pen::form(p, b"; down: the depth, % \xc2\xb5m to a row", step, 0, 0, 0)
+}
+
+// How wide the depths are that stand beside the rows.
+fn label_width(kind: Kind, base: u64, high: u64) -> usize {
+    let first = numbers::width(kind, base);
+    let last = numbers::width(kind, high);
+    if first < last { last } else { first }
 }
 
 fn picture_of(p: Pen, kind: Kind, all: Stretch, values: &[u64], present: &[u8]) -> Pen {
     let c = picture::scale_for(all, kind, values.len(), WIDTH);
-    let width = label_width(kind, c, all);
+    let width = label_width(kind, c.base, all.high);
     let q = rows(p, kind, c, width, values, present);
-    let r = ruler(q, c, width, values, present);
-    legend(indices(r, c, width, values.len()), kind, c, all)
+    let r = ruler(pen::blanks(q, width), c, values, present);
+    let t = indices(pen::blanks(r, width), c, values.len());
+    legend(t, kind, c, all.gone)
 }
 
 // A column that reads.
@@ -190,27 +191,21 @@ pub fn picture(p: Pen, path: &[u8], s: Subject, values: &[u64], present: &[u8]) 
     let kind = kinds::of_spec(s.spec);
     let all = picture::stretch_of(values, present, 0, values.len());
     let q = pen::text(draw::say_subject(p, path, s), b"\n");
-    let r = pen::text(draw::say_facts(q, kind, all), b"\n");
+    let r = draw::say_facts(q, kind, all);
     if all.here == 0 {
-        return pen::text(r, b"there is no depth to draw\n");
+        return pen::text(r, b"\nthere is no depth to draw\n");
     }
-    picture_of(pen::text(r, b"\n"), kind, all, values, present)
+    picture_of(pen::text(r, b"\n\n"), kind, all, values, present)
 }
 
 // A column that does not read: no clay, and no reading.
 pub fn fracture(p: Pen, path: &[u8], s: Subject, number: u8, place: usize) -> Pen {
-    let q = pen::text(draw::say_subject(p, path, s), b"\n\n");
-    let r = pen::text(
-        q,
-        b"  /\\/\\/\\/\\/\\/\\/\\/\\/\\/\\/\\/\\/\\/\\/\\/\\/\\/\\/\\/\\\n  BROKEN: ",
-    );
-    let t = refusals::say(r, number, place, s.len);
-    let u = pen::text(
-        t,
-        b"\n  \\/\\/\\/\\/\\/\\/\\/\\/\\/\\/\\/\\/\\/\\/\\/\\/\\/\\/\\/\\/\n\n",
+    let q = pen::text(
+        draw::say_subject(p, path, s),
+        b"\n\n  /\\/\\/\\/\\/\\/\\/\\/\\/\\/\\/\\/\\/\\/\\/\\/\\/\\/\\/\\/\\\n  BROKEN: ",
     );
     pen::text(
-        u,
-        b"no reading is drawn: a column reads whole or not at all\n",
+        refusals::say(q, number, place, s.len),
+        b"\n  \\/\\/\\/\\/\\/\\/\\/\\/\\/\\/\\/\\/\\/\\/\\/\\/\\/\\/\\/\\/\n\nno reading is drawn: a column reads whole or not at all\n",
     )
 }

@@ -5,25 +5,16 @@ use Rattle.tablet.proofs.svg.gaps.Statement.{statement}
 use Rattle.tablet.proofs.svg.gaps.Tie as tie
 
 abbrev Inv-loop : tie.InvT-loop
-Inv-loop c values present r₀ x₀ t10 r x = Unit {0}
+Inv-loop c values present q₀ x₀ t8 q x = Unit {0}
 
 abbrev μ-loop : tie.MeasureT-loop
-μ-loop c values present r₀ x₀ t10 r x = (c .places) - x
+μ-loop c values present q₀ x₀ t8 q x = (c .places) - x
 
-slice-aggregate-text : tie.Need-slice-aggregate-text Inv-loop μ-loop
-slice-aggregate-text c = search needs
+slice-aggregate-form : tie.Need-slice-aggregate-form Inv-loop μ-loop
+slice-aggregate-form c = search needs
 
-text-requires : tie.Need-text-requires Inv-loop μ-loop
-text-requires c κs = search needs
-
-count-requires : tie.Need-count-requires Inv-loop μ-loop
-count-requires c κs = search needs
-
-slice-aggregate-text-2 : tie.Need-slice-aggregate-text-2 Inv-loop μ-loop
-slice-aggregate-text-2 c = search needs
-
-text-requires-2 : tie.Need-text-requires-2 Inv-loop μ-loop
-text-requires-2 c κs = search needs
+form-requires : tie.Need-form-requires Inv-loop μ-loop
+form-requires c κs = search needs
 
 loop-holds : tie.Need-loop-holds Inv-loop μ-loop
 loop-holds c = search needs
@@ -43,11 +34,11 @@ loop-less c = search needs
 loop-again : tie.Need-loop-again Inv-loop μ-loop
 loop-again c = search needs
 
-slice-aggregate-text-3 : tie.Need-slice-aggregate-text-3 Inv-loop μ-loop
-slice-aggregate-text-3 c = search needs
+slice-aggregate-text : tie.Need-slice-aggregate-text Inv-loop μ-loop
+slice-aggregate-text c = search needs
 
-text-requires-3 : tie.Need-text-requires-3 Inv-loop μ-loop
-text-requires-3 c κs = search needs
+text-requires : tie.Need-text-requires Inv-loop μ-loop
+text-requires c κs = search needs
 
 returns : tie.Need-returns Inv-loop μ-loop
 returns c = search needs
@@ -58,17 +49,14 @@ gaps-spec =
     (tie.spec
     Inv-loop
     μ-loop
-    slice-aggregate-text
-    text-requires
-    count-requires
-    slice-aggregate-text-2
-    text-requires-2
+    slice-aggregate-form
+    form-requires
     loop-holds
     stretch-at-requires
     gap-requires
     add-x
     loop-less
     loop-again
-    slice-aggregate-text-3
-    text-requires-3
+    slice-aggregate-text
+    text-requires
     returns)

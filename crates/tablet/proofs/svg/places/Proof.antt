@@ -16,8 +16,8 @@ loop-holds c = search needs
 stretch-at-requires : tie.Need-stretch-at-requires Inv-loop μ-loop
 stretch-at-requires c κs = search needs
 
-place-requires : tie.Need-place-requires Inv-loop μ-loop
-place-requires c κs = search needs
+place-of-requires : tie.Need-place-of-requires Inv-loop μ-loop
+place-of-requires c κs = search needs
 
 add-x : tie.Need-add-x Inv-loop μ-loop
 add-x c = search needs
@@ -39,7 +39,7 @@ places-spec =
     μ-loop
     loop-holds
     stretch-at-requires
-    place-requires
+    place-of-requires
     add-x
     loop-less
     loop-again

@@ -5,10 +5,13 @@ use Rattle.tablet.proofs.terminal.row.Statement.{statement}
 use Rattle.tablet.proofs.terminal.row.Tie as tie
 
 abbrev Inv-loop : tie.InvT-loop
-Inv-loop kind c row values present q₀ x₀ t9 q x = Unit {0}
+Inv-loop kind c row values present n q₀ x₀ t11 q x = Unit {0}
 
 abbrev μ-loop : tie.MeasureT-loop
-μ-loop kind c row values present q₀ x₀ t9 q x = (c .places) - x
+μ-loop kind c row values present n q₀ x₀ t11 q x = (c .places) - x
+
+cell-requires : tie.Need-cell-requires Inv-loop μ-loop
+cell-requires c κs = search needs
 
 loop-holds : tie.Need-loop-holds Inv-loop μ-loop
 loop-holds c = search needs
@@ -16,8 +19,14 @@ loop-holds c = search needs
 stretch-at-requires : tie.Need-stretch-at-requires Inv-loop μ-loop
 stretch-at-requires c κs = search needs
 
-place-requires : tie.Need-place-requires Inv-loop μ-loop
-place-requires c κs = search needs
+shade-at-requires : tie.Need-shade-at-requires Inv-loop μ-loop
+shade-at-requires c κs = search needs
+
+clay-requires : tie.Need-clay-requires Inv-loop μ-loop
+clay-requires c κs = search needs
+
+sign-requires : tie.Need-sign-requires Inv-loop μ-loop
+sign-requires c κs = search needs
 
 add-x : tie.Need-add-x Inv-loop μ-loop
 add-x c = search needs
@@ -43,9 +52,12 @@ row-spec =
     (tie.spec
     Inv-loop
     μ-loop
+    cell-requires
     loop-holds
     stretch-at-requires
-    place-requires
+    shade-at-requires
+    clay-requires
+    sign-requires
     add-x
     loop-less
     loop-again

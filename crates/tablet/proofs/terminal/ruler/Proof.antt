@@ -5,13 +5,13 @@ use Rattle.tablet.proofs.terminal.ruler.Statement.{statement}
 use Rattle.tablet.proofs.terminal.ruler.Tie as tie
 
 abbrev Inv-loop : tie.InvT-loop
-Inv-loop c width values present q₀ x₀ t9 q x = Unit {0}
+Inv-loop c values present n q₀ x₀ t10 q x = Unit {0}
 
 abbrev μ-loop : tie.MeasureT-loop
-μ-loop c width values present q₀ x₀ t9 q x = (c .places) - x
+μ-loop c values present n q₀ x₀ t10 q x = (c .places) - x
 
-blanks-requires : tie.Need-blanks-requires Inv-loop μ-loop
-blanks-requires c κs = search needs
+cell-requires : tie.Need-cell-requires Inv-loop μ-loop
+cell-requires c κs = search needs
 
 slice-aggregate-text : tie.Need-slice-aggregate-text Inv-loop μ-loop
 slice-aggregate-text c = search needs
@@ -25,8 +25,8 @@ loop-holds c = search needs
 stretch-at-requires : tie.Need-stretch-at-requires Inv-loop μ-loop
 stretch-at-requires c κs = search needs
 
-tick-requires : tie.Need-tick-requires Inv-loop μ-loop
-tick-requires c κs = search needs
+sign-requires : tie.Need-sign-requires Inv-loop μ-loop
+sign-requires c κs = search needs
 
 add-x : tie.Need-add-x Inv-loop μ-loop
 add-x c = search needs
@@ -52,12 +52,12 @@ ruler-spec =
     (tie.spec
     Inv-loop
     μ-loop
-    blanks-requires
+    cell-requires
     slice-aggregate-text
     text-requires
     loop-holds
     stretch-at-requires
-    tick-requires
+    sign-requires
     add-x
     loop-less
     loop-again
