@@ -9,38 +9,17 @@ use crate::show;
 use crate::sound;
 use crate::words;
 
-// Those that look.
-fn look(name: &[u8], line: &[u8], desk: Desk) -> bool {
-    if check::same(name, b"show") {
-        return show::run(line, desk);
-    }
-    if check::same(name, b"read") {
-        return read::run(line, desk);
-    }
-    if check::same(name, b"draw") {
-        return draw::run(line, desk);
-    }
-    if check::same(name, b"check") {
-        return sound::run(line, desk);
-    }
-    write(name, line, desk)
-}
-
-// Those that write, and help.
-fn write(name: &[u8], line: &[u8], desk: Desk) -> bool {
-    if check::same(name, b"edit") {
-        return edit::run(line, desk);
-    }
-    if check::same(name, b"make") {
-        return make::run(line, desk);
-    }
-    if check::same(name, b"help") {
-        return help::run(desk);
-    }
-    help::unknown(name, desk)
-}
-
 // Runs a command, and answers whether all went well.
 pub fn run(line: &[u8], desk: Desk) -> bool {
-    look(words::word(line, 0), line, desk)
+    let name = words::word(line, 0);
+    match words::index(b"show\0read\0draw\0check\0edit\0make\0help\0", name) {
+        0 => show::run(line, desk),
+        1 => read::run(line, desk),
+        2 => draw::run(line, desk),
+        3 => sound::run(line, desk),
+        4 => edit::run(line, desk),
+        5 => make::run(line, desk),
+        6 => help::run(desk),
+        _ => help::unknown(name, desk),
+    }
 }

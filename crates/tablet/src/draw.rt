@@ -19,13 +19,12 @@ use crate::text::between;
 use crate::words;
 use encoding::Answer;
 
-// The column that is drawn, whether it was found at all, and whether a picture that is there may be replaced.
+// The column that is drawn: its position, its specification and its length. Where it was not found, the length is the block's.
 pub struct Subject {
     pub found: bool,
     pub position: usize,
     pub spec: u32,
     pub len: usize,
-    pub over: bool,
 }
 
 // The column in words.
@@ -64,7 +63,7 @@ fn say_depths(p: Pen, kind: Kind, all: Stretch) -> Pen {
     pen::text(high, b" \xc2\xb5m")
 }
 
-pub fn total(all: Stretch) -> usize {
+fn total(all: Stretch) -> usize {
     if all.gone <= usize::MAX - all.here {
         all.here + all.gone
     } else {
@@ -72,142 +71,154 @@ pub fn total(all: Stretch) -> usize {
     }
 }
 
-// Says on which file the picture stands.
-fn say_written(svg: &[u8], desk: Desk) -> bool {
-    let p = pen::text(pen::on(desk.out), svg);
-    pen::finish(pen::text(p, b": written\n"), desk)
+// What the picture is drawn on: the terminal, where no file is named, or the file's part file; -1 where that cannot be.
+fn begin(out: &[u8], over: bool, desk: Desk) -> i32 {
+    if out.len() == 0 {
+        return desk.out;
+    }
+    files::begin(out, over, desk)
 }
 
-// The readings as a picture: in the terminal, where no file is named.
-fn draw_readings(
-    path: &[u8],
-    s: Subject,
-    values: &[u64],
-    present: &[u8],
-    out: &[u8],
-    desk: Desk,
-) -> bool {
+fn end(out: &[u8], p: Pen, desk: Desk) -> bool {
     if out.len() == 0 {
-        let p = terminal::picture(pen::on(desk.out), path, s, values, present);
         return pen::finish(p, desk);
     }
-    let fd = files::begin(out, s.over, desk);
-    if fd < 0 {
-        return false;
-    }
-    let p = svg::picture(pen::on(fd), path, s, values, present);
     if files::end(out, p, desk) {
-        return say_written(out, desk);
+        let q = pen::text(pen::on(desk.out), out);
+        return pen::finish(pen::text(q, b": written\n"), desk);
     }
     false
 }
 
-// A column that does not read is drawn as a break.
-fn draw_break(path: &[u8], s: Subject, number: u8, place: usize, out: &[u8], desk: Desk) {
-    if out.len() == 0 {
-        terminal::fracture(pen::on(desk.out), path, s, number, place);
-        return;
+fn draw_readings(
+    fd: i32,
+    terminal: bool,
+    path: &[u8],
+    s: Subject,
+    values: &[u64],
+    present: &[u8],
+) -> Pen {
+    if terminal {
+        return terminal::picture(pen::on(fd), path, s, values, present);
     }
-    let fd = files::begin(out, s.over, desk);
-    if fd < 0 {
-        return;
-    }
-    let p = svg::fracture(pen::on(fd), path, s, number, place);
-    if files::end(out, p, desk) {
-        say_written(out, desk);
-    }
+    svg::picture(pen::on(fd), path, s, values, present)
 }
 
-fn draw_part(path: &[u8], s: Subject, part: &[u8], out: &[u8], desk: Desk) -> bool {
+// A column that does not read is drawn as a break.
+fn draw_break(fd: i32, terminal: bool, path: &[u8], s: Subject, number: u8, place: usize) -> Pen {
+    if terminal {
+        return terminal::fracture(pen::on(fd), path, s, number, place);
+    }
+    svg::fracture(pen::on(fd), path, s, number, place)
+}
+
+// What was drawn, and the refusal, where there was one.
+struct Drawn {
+    pen: Pen,
+    number: u8,
+    place: usize,
+}
+
+fn draw_part(fd: i32, terminal: bool, path: &[u8], s: Subject, part: &[u8]) -> Drawn {
     let mut values = rooms::unsigned();
     let mut present = rooms::flags();
     match load::load(part, kinds::of_spec(s.spec), &mut values, &mut present) {
         Answer::Done(n) => {
             let k = n as usize;
-            draw_readings(
-                path,
-                s,
-                rooms::front(&values, k),
-                between(&present, 0, k),
-                out,
-                desk,
-            )
+            let all = rooms::front(&values, k);
+            Drawn {
+                pen: draw_readings(fd, terminal, path, s, all, between(&present, 0, k)),
+                number: 0,
+                place: 0,
+            }
         }
-        Answer::Refused(number, place) => {
-            draw_break(path, s, number, place, out, desk);
-            column::say_refused(path, s.position, number, place, s.len, desk);
-            false
-        }
+        Answer::Refused(number, place) => Drawn {
+            pen: draw_break(fd, terminal, path, s, number, place),
+            number,
+            place,
+        },
     }
 }
 
-fn draw_block(
-    path: &[u8],
-    block: &[u8],
-    position: usize,
-    out: &[u8],
-    over: bool,
-    desk: Desk,
-) -> bool {
-    match column::locate(block, position) {
-        Column::Found(spec, start, end) => {
-            let s = Subject {
-                found: true,
-                position,
-                spec,
-                len: pen::short_of(start, end),
-                over,
-            };
-            draw_part(path, s, between(block, start, end), out, desk)
-        }
-        Column::Refused(number, place) => {
-            let s = Subject {
-                found: false,
-                position,
-                spec: 0,
-                len: block.len(),
-                over,
-            };
-            draw_break(path, s, number, place, out, desk);
-            column::say_not_found(path, block, position, number, place, desk);
-            false
-        }
-    }
-}
-
-fn draw_file(path: &[u8], position: usize, out: &[u8], over: bool, desk: Desk) -> bool {
-    let mut block = rooms::block();
-    let n = files::read(path, &mut block, desk);
-    if n == files::FAILED {
+// A column that was not found in a block is drawn as a break too; why was said.
+fn draw_lost(path: &[u8], c: Column, out: &[u8], over: bool, desk: Desk) -> bool {
+    let fd = begin(out, over, desk);
+    if fd < 0 {
         return false;
     }
-    draw_block(path, between(&block, 0, n), position, out, over, desk)
+    let s = Subject {
+        found: false,
+        position: c.position,
+        spec: 0,
+        len: 0,
+    };
+    end(
+        out,
+        draw_break(fd, out.len() == 0, path, s, c.number, c.place),
+        desk,
+    );
+    false
+}
+
+fn draw_found(path: &[u8], c: Column, part: &[u8], out: &[u8], over: bool, desk: Desk) -> bool {
+    let fd = begin(out, over, desk);
+    if fd < 0 {
+        return false;
+    }
+    let s = Subject {
+        found: true,
+        position: c.position,
+        spec: c.spec,
+        len: part.len(),
+    };
+    let d = draw_part(fd, out.len() == 0, path, s, part);
+    let done = end(out, d.pen, desk);
+    if d.number == 0 {
+        return done;
+    }
+    column::say_refused(path, c.position, d.number, d.place, part.len(), desk);
+    false
 }
 
 fn draw_to(line: &[u8], out: &[u8], over: bool, desk: Desk) -> bool {
-    let position = column::place(words::word(line, 2), b"a column's position", desk);
-    if position == column::MISSING {
+    let mut block = rooms::block();
+    let c = column::open(line, &mut block, desk);
+    if c.number == column::NO_BLOCK {
         return false;
     }
-    draw_file(words::word(line, 1), position, out, over, desk)
+    let path = words::word(line, 1);
+    if c.number != 0 {
+        return draw_lost(path, c, out, over, desk);
+    }
+    let part = between(&block, c.start, c.end);
+    draw_found(path, c, part, out, over, desk)
 }
 
 // What stands behind FILE COLUMN: nothing, --svg OUT, or --svg OUT --over.
 pub fn run(line: &[u8], desk: Desk) -> bool {
     let all = words::count(line);
-    let over = check::same(words::word(line, 5), b"--over");
     if all == 3 {
         return draw_to(line, b"", false, desk);
     }
     if check::same(words::word(line, 3), b"--svg") {
-        if all == 5 {
-            return draw_to(line, words::word(line, 4), false, desk);
-        }
-        if all == 6 {
-            if over {
-                return draw_to(line, words::word(line, 4), true, desk);
-            }
-        }
+        return draw_svg(line, all, desk);
     }
+    wrong(desk)
+}
+
+fn draw_svg(line: &[u8], all: usize, desk: Desk) -> bool {
+    if all == 5 {
+        return draw_to(line, words::word(line, 4), false, desk);
+    }
+    if all != 6 {
+        return wrong(desk);
+    }
+    if check::same(words::word(line, 5), b"--over") {
+        return draw_to(line, words::word(line, 4), true, desk);
+    }
+    wrong(desk)
+}
+
+fn wrong(desk: Desk) -> bool {
     help::wrong(b"draw FILE COLUMN [--svg OUT [--over]]", desk)
 }

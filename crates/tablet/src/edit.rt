@@ -19,9 +19,10 @@ use crate::text::between;
 use crate::words;
 use encoding::Answer;
 
-// What is edited: the range, how many bytes and readings its column has, and whether a file that is there may be replaced.
+// What is edited: the range, its column's kind, how many bytes and readings that has, and whether a file that is there may be replaced.
 struct Wanted {
     range: Range,
+    kind: Kind,
     len: usize,
     old: usize,
     over: bool,
@@ -75,7 +76,7 @@ pub fn say_lost(p: Pen, meant: usize) -> Pen {
 }
 
 fn say_written(to: &[u8], block: &[u8], position: usize, meant: usize, desk: Desk) -> bool {
-    let q = pen::form(
+    let p = pen::form(
         pen::text(pen::on(desk.out), to),
         b": % bytes, column %",
         block.len() as u64,
@@ -83,13 +84,9 @@ fn say_written(to: &[u8], block: &[u8], position: usize, meant: usize, desk: Des
         0,
         0,
     );
-    match column::locate(block, position) {
-        Column::Found(spec, a, e) => {
-            let r = say_done(q, between(block, a, e), kinds::of_spec(spec), meant);
-            pen::finish(r, desk)
-        }
-        Column::Refused(_, _) => false,
-    }
+    let c = column::locate(block, position);
+    let part = between(block, c.start, c.end);
+    pen::finish(say_done(p, part, kinds::of_spec(c.spec), meant), desk)
 }
 
 // Saves what an edit came to.
@@ -118,110 +115,75 @@ fn edit_with(
     path: &[u8],
     block: &[u8],
     w: Wanted,
-    kind: Kind,
     new: &[u64],
     present: &[u8],
     to: &[u8],
     desk: Desk,
 ) -> bool {
     let mut out = rooms::block();
-    let e = apply::apply(block, w.range, kind, new, present, &mut out);
+    let kind = w.kind;
+    let range = w.range;
+    let e = apply::apply(block, range, kind, new, present, &mut out);
     finish(path, e, w, &out, new.len(), to, desk)
 }
 
-// The edit of a column whose kind is known.
-fn edit_column(
-    path: &[u8],
-    block: &[u8],
-    w: Wanted,
-    kind: Kind,
-    text: &[u8],
-    to: &[u8],
-    desk: Desk,
-) -> bool {
+// The edit of a column that the block has, by readings as text.
+fn edit_column(path: &[u8], block: &[u8], w: Wanted, text: &[u8], to: &[u8], desk: Desk) -> bool {
     let mut new = rooms::unsigned();
     let mut present = rooms::flags();
+    let kind = w.kind;
     let n = given::readings(text, kind, &mut new, &mut present, desk);
     if n == given::NONE {
         return false;
     }
-    edit_with(
-        path,
-        block,
-        w,
-        kind,
-        rooms::front(&new, n),
-        between(&present, 0, n),
-        to,
-        desk,
-    )
+    let all = rooms::front(&new, n);
+    edit_with(path, block, w, all, between(&present, 0, n), to, desk)
 }
 
-fn edit_block(
-    path: &[u8],
-    block: &[u8],
-    r: Range,
-    over: bool,
-    text: &[u8],
-    to: &[u8],
-    desk: Desk,
-) -> bool {
-    match column::locate(block, r.position) {
-        Column::Found(spec, a, e) => {
-            let kind = kinds::of_spec(spec);
-            let part = between(block, a, e);
-            let w = Wanted {
-                range: r,
-                len: part.len(),
-                old: count_of(part, kind),
-                over,
-            };
-            edit_column(path, block, w, kind, text, to, desk)
-        }
-        Column::Refused(number, place) => {
-            column::say_not_found(path, block, r.position, number, place, desk);
-            false
-        }
+fn wanted_of(block: &[u8], c: Column, r: Range, over: bool) -> Wanted {
+    let kind = kinds::of_spec(c.spec);
+    let part = between(block, c.start, c.end);
+    Wanted {
+        range: r,
+        kind,
+        len: part.len(),
+        old: count_of(part, kind),
+        over,
     }
 }
 
-fn edit_file(path: &[u8], r: Range, over: bool, text: &[u8], to: &[u8], desk: Desk) -> bool {
+// The words from 5 up to the option are readings, and the word behind it is the new file.
+fn edit_to(line: &[u8], option: usize, over: bool, desk: Desk) -> bool {
     let mut block = rooms::block();
-    let n = files::read(path, &mut block, desk);
-    if n == files::FAILED {
+    let c = column::open(line, &mut block, desk);
+    if c.number != 0 {
         return false;
     }
-    edit_block(path, between(&block, 0, n), r, over, text, to, desk)
+    let r = range_of(line, c.position, desk);
+    if !is_whole(r) {
+        return false;
+    }
+    let text = between(line, words::start(line, 5), words::start(line, option));
+    let to = words::word(line, after(option));
+    let whole = between(&block, 0, c.size);
+    let w = wanted_of(whole, c, r, over);
+    edit_column(words::word(line, 1), whole, w, text, to, desk)
 }
 
-// The three numbers of an edit.
-fn range_of(line: &[u8], desk: Desk) -> Range {
+// START and END.
+fn range_of(line: &[u8], position: usize, desk: Desk) -> Range {
     Range {
-        position: column::place(words::word(line, 2), b"a column's position", desk),
+        position,
         start: column::place(words::word(line, 3), b"START", desk),
         end: column::place(words::word(line, 4), b"END", desk),
     }
 }
 
 fn is_whole(r: Range) -> bool {
-    if r.position == column::MISSING {
-        return false;
-    }
     if r.start == column::MISSING {
         return false;
     }
     r.end != column::MISSING
-}
-
-// The words from 5 up to the option are readings, and the word behind it is the new file.
-fn edit_to(line: &[u8], option: usize, over: bool, desk: Desk) -> bool {
-    let r = range_of(line, desk);
-    if !is_whole(r) {
-        return false;
-    }
-    let text = between(line, words::start(line, 5), words::start(line, option));
-    let to = words::word(line, after(option));
-    edit_file(words::word(line, 1), r, over, text, to, desk)
 }
 
 fn wrong(desk: Desk) -> bool {

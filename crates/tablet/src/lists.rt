@@ -3,24 +3,32 @@ use crate::kinds::Kind;
 use crate::numbers;
 use crate::numbers::Decimal;
 use crate::numbers::Reading;
+use crate::text::NO_ROOM;
 use crate::text::after;
 use crate::text::between;
 use crate::text::find;
 
-// How many readings there are; or what is wrong with the text from one place up to another.
-pub enum List {
-    Count(usize),
-    NoNumber(usize, usize),
-    OutOfRange(usize, usize),
-    TooMany,
+// What is wrong with a reading.
+pub const NO_NUMBER: u8 = 1;
+
+pub const OUT_OF_RANGE: u8 = 2;
+
+pub const TOO_MANY: u8 = 3;
+
+// A reading so many times; or what is wrong. The fault is 0 where nothing is.
+struct Item {
+    fault: u8,
+    value: u64,
+    here: u8,
+    times: usize,
 }
 
-// A reading behind those that are there: how many there are then, or what is wrong.
-enum Added {
-    Count(usize),
-    NoNumber,
-    OutOfRange,
-    TooMany,
+// How many readings there are; or what is wrong with the text from one place up to another.
+pub struct List {
+    pub fault: u8,
+    pub count: usize,
+    pub at: usize,
+    pub end: usize,
 }
 
 // The end of the reading that begins at `at`.
@@ -38,7 +46,39 @@ fn reading_end(s: &[u8], at: usize) -> usize {
     i
 }
 
-// Puts one reading `times` times into the slots from n on, where they fit.
+fn item_with(fault: u8, value: u64, here: u8, times: usize) -> Item {
+    Item {
+        fault,
+        value,
+        here,
+        times,
+    }
+}
+
+fn item_of(r: Reading, times: usize) -> Item {
+    match r {
+        Reading::Value(value) => item_with(0, value, 1, times),
+        Reading::Absent => item_with(0, 0, 0, times),
+        Reading::NoNumber => item_with(NO_NUMBER, 0, 0, 0),
+        Reading::OutOfRange => item_with(OUT_OF_RANGE, 0, 0, 0),
+    }
+}
+
+// READING or READINGxCOUNT.
+fn read_item(s: &[u8], kind: Kind) -> Item {
+    let x = find(s, 0, b'x');
+    let r = numbers::reading_of(between(s, 0, x), kind);
+    if x == s.len() {
+        return item_of(r, 1);
+    }
+    match numbers::decimal_of(between(s, after(x), s.len())) {
+        Decimal::Value(times) => item_of(r, times as usize),
+        Decimal::NoNumber => item_with(NO_NUMBER, 0, 0, 0),
+        Decimal::TooLarge => item_with(TOO_MANY, 0, 0, 0),
+    }
+}
+
+// Puts one reading `times` times into the slots from n on, where they fit; the slot behind them, or NO_ROOM.
 fn repeat(
     value: u64,
     here: u8,
@@ -46,15 +86,15 @@ fn repeat(
     values: &mut [u64],
     present: &mut [u8],
     n: usize,
-) -> Added {
+) -> usize {
     if values.len() != present.len() {
-        return Added::TooMany;
+        return NO_ROOM;
     }
     if values.len() < n {
-        return Added::TooMany;
+        return NO_ROOM;
     }
     if values.len() - n < times {
-        return Added::TooMany;
+        return NO_ROOM;
     }
     let mut i = 0;
     while i < times {
@@ -62,35 +102,15 @@ fn repeat(
         present[n + i] = here;
         i += 1;
     }
-    Added::Count(n + i)
+    n + i
 }
 
-fn add_reading(
-    r: Reading,
-    times: usize,
-    values: &mut [u64],
-    present: &mut [u8],
-    n: usize,
-) -> Added {
-    match r {
-        Reading::Value(value) => repeat(value, 1, times, values, present, n),
-        Reading::Absent => repeat(0, 0, times, values, present, n),
-        Reading::NoNumber => Added::NoNumber,
-        Reading::OutOfRange => Added::OutOfRange,
-    }
-}
-
-// READING or READINGxCOUNT.
-fn add(s: &[u8], kind: Kind, values: &mut [u64], present: &mut [u8], n: usize) -> Added {
-    let x = find(s, 0, b'x');
-    let r = numbers::reading_of(between(s, 0, x), kind);
-    if x == s.len() {
-        return add_reading(r, 1, values, present, n);
-    }
-    match numbers::decimal_of(between(s, after(x), s.len())) {
-        Decimal::Value(times) => add_reading(r, times as usize, values, present, n),
-        Decimal::NoNumber => Added::NoNumber,
-        Decimal::TooLarge => Added::TooMany,
+fn wrong(fault: u8, at: usize, end: usize) -> List {
+    List {
+        fault,
+        count: 0,
+        at,
+        end,
     }
 }
 
@@ -101,25 +121,24 @@ pub fn fill(s: &[u8], kind: Kind, values: &mut [u64], present: &mut [u8]) -> Lis
     let mut turns = s.len();
     while turns > 0 {
         if s.len() <= at {
-            return List::Count(n);
+            break;
         }
         let end = reading_end(s, at);
-        match add(between(s, at, end), kind, values, present, n) {
-            Added::Count(more) => {
-                n = more;
-            }
-            Added::NoNumber => {
-                return List::NoNumber(at, end);
-            }
-            Added::OutOfRange => {
-                return List::OutOfRange(at, end);
-            }
-            Added::TooMany => {
-                return List::TooMany;
-            }
+        let i = read_item(between(s, at, end), kind);
+        if i.fault != 0 {
+            return wrong(i.fault, at, end);
+        }
+        n = repeat(i.value, i.here, i.times, values, present, n);
+        if n == NO_ROOM {
+            return wrong(TOO_MANY, at, end);
         }
         at = after(end);
         turns -= 1;
     }
-    List::Count(n)
+    List {
+        fault: 0,
+        count: n,
+        at: 0,
+        end: 0,
+    }
 }

@@ -2,7 +2,6 @@
 use crate::apply;
 use crate::apply::Range;
 use crate::column;
-use crate::column::Column;
 use crate::edit;
 use crate::files;
 use crate::given;
@@ -55,20 +54,13 @@ fn with_id(t: ColumnType, id: Decimal) -> Spec {
     }
 }
 
+// The types that can be made, from 1 on as in 01.
 fn of_type(name: &[u8], id: Decimal) -> Spec {
-    if check::same(name, b"delta") {
-        return with_id(ColumnType::DeltaInteger, id);
+    let i = words::index(b"actor\0integer\0delta\0boolean\0", name);
+    if 3 < i {
+        return Spec::NoColumn;
     }
-    if check::same(name, b"boolean") {
-        return with_id(ColumnType::Boolean, id);
-    }
-    if check::same(name, b"integer") {
-        return with_id(ColumnType::Integer, id);
-    }
-    if check::same(name, b"actor") {
-        return with_id(ColumnType::Actor, id);
-    }
-    Spec::NoColumn
+    with_id(ColumnType::from_u8(i as u8 + 1), id)
 }
 
 // TYPE:ID=..
@@ -211,14 +203,10 @@ fn note_lost(block: &[u8], position: usize, n: usize, desk: Desk) {
     if n == 0 {
         return;
     }
-    match column::locate(block, position) {
-        Column::Found(_, a, e) => {
-            if a == e {
-                let p = pen::form(pen::on(desk.out), b"column %:\n", position as u64, 0, 0, 0);
-                edit::say_lost(p, n);
-            }
-        }
-        Column::Refused(_, _) => {}
+    let c = column::locate(block, position);
+    if c.start == c.end {
+        let p = pen::form(pen::on(desk.out), b"column %:\n", position as u64, 0, 0, 0);
+        edit::say_lost(p, n);
     }
 }
 

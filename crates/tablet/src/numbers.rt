@@ -6,6 +6,7 @@ use crate::kinds::Kind;
 use crate::pen;
 use crate::pen::Pen;
 use crate::text;
+use crate::words;
 
 pub const HALF: u64 = 9223372036854775808;
 
@@ -139,19 +140,11 @@ fn outside(d: Decimal) -> Reading {
 }
 
 fn yes_no(s: &[u8]) -> Reading {
-    if check::same(s, b"true") {
-        return Reading::Value(1);
+    let i = words::index(b"false\0true\00\01\0", s);
+    if 3 < i {
+        return Reading::NoNumber;
     }
-    if check::same(s, b"1") {
-        return Reading::Value(1);
-    }
-    if check::same(s, b"false") {
-        return Reading::Value(0);
-    }
-    if check::same(s, b"0") {
-        return Reading::Value(0);
-    }
-    Reading::NoNumber
+    Reading::Value((i % 2) as u64)
 }
 
 // The reading that a text stands for in a column of a kind.

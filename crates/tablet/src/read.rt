@@ -1,7 +1,5 @@
 // tablet read FILE COLUMN: the readings, one a line.
 use crate::column;
-use crate::column::Column;
-use crate::files;
 use crate::help;
 use crate::kinds;
 use crate::kinds::Kind;
@@ -42,13 +40,11 @@ fn read_part(path: &[u8], position: usize, part: &[u8], kind: Kind, desk: Desk) 
     match load::load(part, kind, &mut values, &mut present) {
         Answer::Done(n) => {
             let k = n as usize;
-            let p = say_all(
-                pen::on(desk.out),
-                kind,
-                rooms::front(&values, k),
-                between(&present, 0, k),
-            );
-            pen::finish(p, desk)
+            let all = rooms::front(&values, k);
+            pen::finish(
+                say_all(pen::on(desk.out), kind, all, between(&present, 0, k)),
+                desk,
+            )
         }
         Answer::Refused(number, place) => {
             column::say_refused(path, position, number, place, part.len(), desk);
@@ -57,38 +53,21 @@ fn read_part(path: &[u8], position: usize, part: &[u8], kind: Kind, desk: Desk) 
     }
 }
 
-fn read_block(path: &[u8], block: &[u8], position: usize, desk: Desk) -> bool {
-    match column::locate(block, position) {
-        Column::Found(spec, start, end) => read_part(
-            path,
-            position,
-            between(block, start, end),
-            kinds::of_spec(spec),
-            desk,
-        ),
-        Column::Refused(number, place) => {
-            column::say_not_found(path, block, position, number, place, desk);
-            false
-        }
-    }
-}
-
-fn read_file(path: &[u8], position: usize, desk: Desk) -> bool {
-    let mut block = rooms::block();
-    let n = files::read(path, &mut block, desk);
-    if n == files::FAILED {
-        return false;
-    }
-    read_block(path, between(&block, 0, n), position, desk)
-}
-
 pub fn run(line: &[u8], desk: Desk) -> bool {
     if words::count(line) != 3 {
         return help::wrong(b"read FILE COLUMN", desk);
     }
-    let position = column::place(words::word(line, 2), b"a column's position", desk);
-    if position == column::MISSING {
+    let mut block = rooms::block();
+    let c = column::open(line, &mut block, desk);
+    if c.number != 0 {
         return false;
     }
-    read_file(words::word(line, 1), position, desk)
+    let part = between(&block, c.start, c.end);
+    read_part(
+        words::word(line, 1),
+        c.position,
+        part,
+        kinds::of_spec(c.spec),
+        desk,
+    )
 }

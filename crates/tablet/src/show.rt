@@ -58,17 +58,10 @@ fn say_readings(p: Pen, part: &[u8], kind: Kind) -> Shown {
 }
 
 fn show_column(p: Pen, block: &[u8], position: usize) -> Shown {
-    match column::locate(block, position) {
-        column::Column::Found(spec, start, end) => say_readings(
-            say_row(p, position, spec, pen::short_of(start, end)),
-            between(block, start, end),
-            kinds::of_spec(spec),
-        ),
-        column::Column::Refused(number, place) => Shown {
-            pen: refusals::say(p, number, place, block.len()),
-            bad: 1,
-        },
-    }
+    let c = column::locate(block, position);
+    let part = between(block, c.start, c.end);
+    let row = say_row(p, position, c.spec, part.len());
+    say_readings(row, part, kinds::of_spec(c.spec))
 }
 
 fn show_columns(p: Pen, block: &[u8], rows: usize) -> Shown {

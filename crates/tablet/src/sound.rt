@@ -1,6 +1,5 @@
 // tablet check FILE..: one line a file, for scripts.
 use crate::column;
-use crate::column::Column;
 use crate::files;
 use crate::help;
 use crate::kinds;
@@ -35,23 +34,16 @@ fn with_refusal(l: Line, position: usize, number: u8, place: usize, len: usize) 
     }
 }
 
-fn judge_part(l: Line, position: usize, spec: u32, part: &[u8]) -> Line {
-    let kind = kinds::of_spec(spec);
+fn judge_column(l: Line, block: &[u8], position: usize) -> Line {
+    let c = column::locate(block, position);
+    let kind = kinds::of_spec(c.spec);
     if !kinds::is_served(kind) {
         return l;
     }
+    let part = between(block, c.start, c.end);
     match load::count(part, kind) {
         Answer::Done(_) => l,
         Answer::Refused(number, place) => with_refusal(l, position, number, place, part.len()),
-    }
-}
-
-fn judge_column(l: Line, block: &[u8], position: usize) -> Line {
-    match column::locate(block, position) {
-        Column::Found(spec, start, end) => {
-            judge_part(l, position, spec, between(block, start, end))
-        }
-        Column::Refused(number, place) => with_refusal(l, position, number, place, 0),
     }
 }
 

@@ -35,6 +35,19 @@ pub fn count(words: &[u8]) -> usize {
     n
 }
 
+// Which word of a list this is; the number of its words where it is none.
+pub fn index(list: &[u8], name: &[u8]) -> usize {
+    let all = count(list);
+    let mut i = 0;
+    while i < all {
+        if check::same(word(list, i), name) {
+            return i;
+        }
+        i += 1;
+    }
+    all
+}
+
 // The first word from k on that is an option, which begins with two dashes; the number of words where there is none.
 pub fn option(words: &[u8], k: usize) -> usize {
     let all = count(words);
