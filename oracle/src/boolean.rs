@@ -28,3 +28,11 @@ pub fn decode(column: &[u8], most: usize) -> Result<Vec<bool>, Refusal> {
 pub fn decode_maybe(column: &[u8], most: usize) -> Result<Vec<Option<bool>>, Refusal> {
     readings(MaybeBooleanDecoder::from(column), most)
 }
+
+/// The column with the values from `start` up to `end` replaced: the crate's own splice of these columns is not in the
+/// text, so the list is decoded, changed as a list and encoded again.
+pub fn splice(column: &[u8], start: usize, end: usize, new: &[bool]) -> Result<Vec<u8>, Refusal> {
+    let mut list = decode(column, usize::MAX)?;
+    list.splice(start..end.min(list.len()), new.iter().copied());
+    Ok(encode(&list))
+}

@@ -3,6 +3,8 @@
 mod boolean;
 mod columns;
 mod delta;
+mod edited;
+mod edits;
 mod numbers;
 mod optional;
 mod rle;
@@ -29,7 +31,7 @@ pub struct Family {
     write: fn(&mut String, &Options, &mut Random),
 }
 
-pub const FAMILIES: [Family; 11] = [
+pub const FAMILIES: [Family; 12] = [
     Family {
         name: "numbers-short",
         about: "the four readers on all inputs of 0 to 2 bytes",
@@ -84,6 +86,11 @@ pub const FAMILIES: [Family; 11] = [
         name: "tables",
         about: "tables and blocks, sound and faulty ones: rows, columns by position and specification, frames",
         write: tables::all,
+    },
+    Family {
+        name: "edits",
+        about: "edits of integer, delta and boolean columns, sound and refused ones",
+        write: edits::all,
     },
 ];
 

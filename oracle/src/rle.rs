@@ -16,3 +16,16 @@ pub fn encode(list: &[Option<u64>]) -> Vec<u8> {
 pub fn decode(column: &[u8], most: usize) -> Result<Vec<Option<u64>>, Refusal> {
     readings(RleDecoder::<u64>::from(column), most)
 }
+
+/// The column with the readings from `start` up to `end` replaced: the crate's own splice of these columns is not in the
+/// text, so the list is decoded, changed as a list and encoded again.
+pub fn splice(
+    column: &[u8],
+    start: usize,
+    end: usize,
+    new: &[Option<u64>],
+) -> Result<Vec<u8>, Refusal> {
+    let mut list = decode(column, usize::MAX)?;
+    list.splice(start..end.min(list.len()), new.iter().copied());
+    Ok(encode(&list))
+}

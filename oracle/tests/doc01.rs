@@ -170,6 +170,13 @@ fn a_splice_is_the_list_before_the_new_readings_and_the_list_behind() {
     });
 }
 
+#[test]
+fn the_edit_of_document_01() {
+    let column = [0x7f, 0xd0, 0x00, 0x02, 0x00];
+    let spliced = delta::splice(&column, 1, 2, &[Some(81)]);
+    assert_eq!(spliced, Ok(vec![0x7d, 0xd0, 0x00, 0x01, 0x7f]));
+}
+
 /// The sorting key of document 01.
 fn key(spec: u32) -> u32 {
     spec & 0xf7

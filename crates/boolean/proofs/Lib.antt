@@ -2,6 +2,5 @@ pub mod Back
 pub mod Clean
 pub mod Counting
 pub mod Decoding
-pub mod Examples
 pub mod Turning
 pub mod Writing

@@ -2,7 +2,6 @@ pub mod Back
 pub mod Deltas
 pub mod DifferenceLaws
 pub mod Differing
-pub mod Examples
 pub mod Held
 pub mod Kept
 pub mod Passing

@@ -1,6 +1,5 @@
 pub mod Back
 pub mod Encoded
-pub mod Examples
 pub mod Laws
 pub mod Only
 pub mod Scanning

@@ -16,6 +16,7 @@ use Rattle.leb128.specs.Read.{uLarge, uLong, unsigned, narrow, u64At, u32At}
 use Rattle.leb128.proofs.Laws.{u64-next}
 use Rattle.column_specification.specs.Key.{key}
 use Rattle.column_specification.specs.Specification.{compressedOf}
+use Rattle.encoding.proofs.Lists.{cond-by}
 use Rattle.raw_column.specs.Table.{Tab, tab, faulty, withNumber, withRow, rowsAt, inOrder, plain, sum, judged, parse}
 use Rattle.raw_column.specs.Rows.{pad, startsFrom, opened, rowsOf, startsOf}
 use Rattle.raw_column.specs.declared.Rows.{Rows}
@@ -23,10 +24,6 @@ use Rattle.raw_column.specs.declared.Starts.{Starts}
 use Rattle.raw_column.specs.declared.Opened.{Opened}
 
 -- ---- by cases
-pub cond-by : {A : Type 0} (P : A → Type 0) (b : Bool) (x y : A) → (b ≡ true → P x) → (b ≡ false → P y) → P (cond b x y)
-cond-by P true x y h g = h refl
-cond-by P false x y h g = g refl
-
 pub number-by : (P : Tab → Type 0) (m : Got ℕ) (k : ℕ → ℕ → Tab) → ((v next : ℕ) → m ≡ got v next → P (k v next)) → ((r place : ℕ) → m ≡ bad r place → P (faulty r place)) → P (withNumber m k)
 number-by P (got v next) k g b = g v next refl
 number-by P (bad r place) k g b = b r place refl
@@ -55,7 +52,7 @@ SomeBad (bad r place) = 0 < r
 
 unsigned-some : (at place : ℕ) (c : Digits) → SomeBroken c → SomeBad (unsigned at place c)
 unsigned-some at place (whole low scale prev last count) h =
-    cond-by SomeBad (uLarge last count) _ _ (λ e. omega arith) (λ e. cond-by SomeBad (uLong last count) _ _ (λ f. omega arith) (λ f. tt))
+    cond-by SomeBad (uLarge last count) (λ e. omega arith) (λ e. cond-by SomeBad (uLong last count) (λ f. omega arith) (λ f. tt))
 unsigned-some at place (broken r) h = h
 
 u64-some : (s : List ℕ) (at : ℕ) → SomeBad (u64At s at)
@@ -63,7 +60,7 @@ unfolding u64At
 u64-some s at = unsigned-some at (min at (length s)) (digits 0 0 (drop at s)) (broken-some 0 0 (drop at s))
 
 narrow-some : (at : ℕ) (g : Got ℕ) → SomeBad g → SomeBad (narrow at g)
-narrow-some at (got v next) h = cond-by SomeBad (leb v 4294967295) _ _ (λ e. tt) (λ e. omega arith)
+narrow-some at (got v next) h = cond-by SomeBad (leb v 4294967295) (λ e. tt) (λ e. omega arith)
 narrow-some at (bad r place) h = h
 
 pub u64-fault : (s : List ℕ) (at r place : ℕ) → u64At s at ≡ bad r place → 0 < r
@@ -407,17 +404,17 @@ ParseOk size (faulty number place) = 0 < number
 judged-ok : (n size : ℕ) (t : Tab) → n ≤ 64 → RowsOk n size t → ParseOk size (judged size t)
 judged-ok n size (faulty number place) h r = r
 judged-ok n size (tab specs lens next) h r =
-    cond-by (ParseOk size) (not (inOrder 0 specs)) _ _ (λ e. omega arith)
-    (λ e. cond-by (ParseOk size) (not (plain specs)) _ _ (λ f. omega arith)
-    (λ f. cond-by (ParseOk size) (ltb (size - next) (sum lens)) _ _ (λ g. omega arith)
-    (λ g. cond-by (ParseOk size) (ltb (sum lens) (size - next)) _ _ (λ k. omega arith)
+    cond-by (ParseOk size) (not (inOrder 0 specs)) (λ e. omega arith)
+    (λ e. cond-by (ParseOk size) (not (plain specs)) (λ f. omega arith)
+    (λ f. cond-by (ParseOk size) (ltb (size - next) (sum lens)) (λ g. omega arith)
+    (λ g. cond-by (ParseOk size) (ltb (sum lens) (size - next)) (λ k. omega arith)
     (λ k. (omega (arith, r .0), omega (arith, r .0, r .1), omega (arith, r .2, ltb-false (size - next) (sum lens) g, ltb-false (sum lens) (size - next) k))))))
 
 pub parse-ok : (s : List ℕ) → ParseOk (length s) (parse s)
 unfolding parse
 parse-ok s =
     number-by (ParseOk (length s)) (u64At s 0) _
-    (λ n q e. cond-by (ParseOk (length s)) (ltb 64 n) _ _ (λ h. omega arith)
+    (λ n q e. cond-by (ParseOk (length s)) (ltb 64 n) (λ h. omega arith)
     (λ h. judged-ok n (length s) (rowsAt n s q) (ltb-false 64 n h) (rows-ok n s q (u64-next s 0 n q e .1))))
     (λ r place e. u64-fault s 0 r place e)
 

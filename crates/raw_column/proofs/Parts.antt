@@ -7,11 +7,12 @@ use native.Mathlib.Omega.{arith}
 use lib.ListN.{length, getD, take, drop}
 use lib.Dec.{ltb}
 use borrow.Author.Tests.{ltb-true, lt-ltb, le-ltb, eq-eqb, ne-eqb}
+use Rattle.encoding.proofs.Lists.{cond-by}
 use Rattle.raw_column.specs.Table.{Tab, tab, faulty, sum, parse}
 use Rattle.raw_column.specs.Part.{startOf, noPart, rowPart, partIn, rowOf, specPartIn, partAt, partFor}
 use Rattle.raw_column.specs.declared.Part.{Part}
 use Rattle.raw_column.specs.declared.Opened.{Opened}
-use Rattle.raw_column.proofs.Opening.{cond-by, next-of, none-left, ParseOk, parse-ok, sum-to, specsOf, lensOf, Open, rows-long, lens-many}
+use Rattle.raw_column.proofs.Opening.{next-of, none-left, ParseOk, parse-ok, sum-to, specsOf, lensOf, Open, rows-long, lens-many}
 
 -- ---- a part lies within its block, whatever the bytes
 abbrev Within : ℕ → Part → Type 0
@@ -19,14 +20,14 @@ Within size p = p .start + p .len ≤ size
 
 part-case : (size position : ℕ) (t : Tab) → ParseOk size t → Within size (partIn position t)
 part-case size position (tab specs lens next) h =
-    cond-by (Within size) (ltb position (length specs)) _ _
+    cond-by (Within size) (ltb position (length specs))
     (λ e. omega (arith, sum-to lens position (omega (arith, ltb-true position (length specs) e, h .1)), h .2))
     (λ e. omega arith)
 part-case size position (faulty number place) h = omega arith
 
 spec-case : (size spec : ℕ) (t : Tab) → ParseOk size t → Within size (specPartIn spec t)
 spec-case size spec (tab specs lens next) h =
-    cond-by (Within size) (ltb (rowOf spec specs) (length specs)) _ _
+    cond-by (Within size) (ltb (rowOf spec specs) (length specs))
     (λ e. omega (arith, sum-to lens (rowOf spec specs) (omega (arith, ltb-true (rowOf spec specs) (length specs) e, h .1)), h .2))
     (λ e. omega arith)
 spec-case size spec (faulty number place) h = omega arith

@@ -1,6 +1,4 @@
 // The calls of the crates of columns, and what they share. Lists and bytes, inputs and outputs, have at most 20,000.
-ghost use mathlib.Core.Path.{_≡_};
-ghost use lib.ListN.{length};
 use crate::booleans;
 use crate::deltas;
 use crate::fields;
@@ -8,44 +6,8 @@ use crate::fields::Cursor;
 use crate::fields::Verdict;
 use crate::fields::is_known;
 use crate::integers;
+use crate::rooms;
 use encoding::Answer;
-
-// Room for a list or for bytes. There are few in most records, and to zero much room for each would take most of the time.
-fn few_words() -> [u64; 256]
-    ensures { λ r. ⌜ 256 ≡ length r ⌝ }
-{
-    [0; 256]
-}
-
-fn few_signed() -> [i64; 256]
-    ensures { λ r. ⌜ 256 ≡ length r ⌝ }
-{
-    [0; 256]
-}
-
-fn few_bytes() -> [u8; 256]
-    ensures { λ r. ⌜ 256 ≡ length r ⌝ }
-{
-    [0; 256]
-}
-
-fn many_words() -> [u64; 20000]
-    ensures { λ r. ⌜ 20000 ≡ length r ⌝ }
-{
-    [0; 20000]
-}
-
-fn many_signed() -> [i64; 20000]
-    ensures { λ r. ⌜ 20000 ≡ length r ⌝ }
-{
-    [0; 20000]
-}
-
-fn many_bytes() -> [u8; 20000]
-    ensures { λ r. ⌜ 20000 ≡ length r ⌝ }
-{
-    [0; 20000]
-}
 
 // The families' calls by name: with little room, and where the line is then no record, with much.
 pub fn run(name: &[u8], line: &[u8], c: Cursor) -> Verdict {
@@ -57,11 +19,11 @@ pub fn run(name: &[u8], line: &[u8], c: Cursor) -> Verdict {
 }
 
 fn run_few(name: &[u8], line: &[u8], c: Cursor) -> Verdict {
-    let mut values = few_words();
-    let mut signed = few_signed();
-    let mut present = few_bytes();
-    let mut bytes = few_bytes();
-    let mut recorded = few_bytes();
+    let mut values = rooms::few_words();
+    let mut signed = rooms::few_signed();
+    let mut present = rooms::few_bytes();
+    let mut bytes = rooms::few_bytes();
+    let mut recorded = rooms::few_bytes();
     run_in(
         name,
         line,
@@ -75,11 +37,11 @@ fn run_few(name: &[u8], line: &[u8], c: Cursor) -> Verdict {
 }
 
 fn run_many(name: &[u8], line: &[u8], c: Cursor) -> Verdict {
-    let mut values = many_words();
-    let mut signed = many_signed();
-    let mut present = many_bytes();
-    let mut bytes = many_bytes();
-    let mut recorded = many_bytes();
+    let mut values = rooms::many_words();
+    let mut signed = rooms::many_signed();
+    let mut present = rooms::many_bytes();
+    let mut bytes = rooms::many_bytes();
+    let mut recorded = rooms::many_bytes();
     run_in(
         name,
         line,

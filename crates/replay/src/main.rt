@@ -2,13 +2,18 @@
 //
 // The arguments are the files. For each it writes how many records the file has and how many differ, and for the first
 // that differs its line and what was answered. A line that is no record, or longer than 65,536 bytes, differs too.
+mod boolean_edits;
 mod booleans;
 mod columns;
+mod delta_edits;
 mod deltas;
+mod edits;
 mod fields;
+mod integer_edits;
 mod integers;
 mod lists;
 mod numbers;
+mod rooms;
 mod signed;
 mod specifications;
 mod tables;
@@ -49,6 +54,10 @@ fn run(name: &[u8], line: &[u8], c: Cursor) -> Verdict {
         return v;
     }
     let v = tables::run(name, line, c);
+    if is_known(v) {
+        return v;
+    }
+    let v = edits::run(name, line, c);
     if is_known(v) {
         return v;
     }

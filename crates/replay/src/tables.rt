@@ -51,7 +51,7 @@ fn opened(line: &[u8], c: Cursor, o: Opened) -> Verdict {
 }
 
 // SPECS STARTS LENS
-fn expect_table(line: &[u8], c: Cursor, t: Table) -> Cursor {
+pub fn expect_table(line: &[u8], c: Cursor, t: Table) -> Cursor {
     let rows = t.rows;
     let narrow = t.specs;
     let specs = widened(&narrow);

@@ -1,4 +1,3 @@
 pub mod Back
-pub mod Examples
 pub mod WordLaws
 pub mod Words

@@ -30,19 +30,6 @@ module _ {A : Type 0} where
   length-spliced xs a e new h b =
       omega (arith, length-append (take a xs) (new ++ drop e xs), length-append new (drop e xs), length-take-le a xs (omega arith), length-drop e xs)
 
-  pub length-in-slots : (z : A) (slots : List A) (old : ℕ) (xs : List A) → old ≤ length slots → length xs ≤ length slots → length (inSlots z slots old xs) ≡ length slots
-  length-in-slots z slots old xs h b =
-      let k = old - length xs in
-      let m = max old (length xs) in
-      omega (arith, length-append xs (replicate k z ++ drop m slots), length-append (replicate k z) (drop m slots), length-replicate k z, length-drop m slots)
-
-  -- slots that begin with the old list
-  pub in-slots-front : (z : A) (xs rest ys : List A)
-      → inSlots z (xs ++ rest) (length xs) ys ≡ ys ++ (replicate (length xs - length ys) z ++ drop (length ys - length xs) rest)
-  in-slots-front z xs rest ys =
-      let m : max (length xs) (length ys) ≡ length xs + (length ys - length xs) = omega arith in
-      rw (m, drop-append-add)
-
 -- ---- the splice where there is room for it: after the move, the put and the clearing
 module _ {A : Type 0} (z : A) (d : List A) (old a e : ℕ) (new : List A) (room : (a ≤ e) × (e ≤ old) × (old ≤ length d) × (a + length new + (old - e) ≤ length d)) where
   drop-take : drop e (take old d) ≡ take (old - e) (drop e d)

@@ -1,5 +1,5 @@
 -- An edit of a boolean column: its slots and its new list, where it is ready, and how it begins. Assumes nothing.
-use Prim.Native.Nat.{ℕ, _+_, _-_, _≤_, _<_}
+use Prim.Native.Nat.{ℕ, _+_, _-_}
 use mathlib.Core.Path.{_≡_, refl, sym, ap, _∙_, subst}
 use mathlib.Core.List.{List, [], _∷_, _++_, map}
 use mathlib.Core.Option.{Option, none, some}
@@ -9,9 +9,8 @@ use lib.Dec.{eqb}
 use lib.ListN.{length, take, drop}
 use lib.Seq.{take-at}
 use borrow.Author.Tests.{le-leb, eq-eqb}
-use Rattle.leb128.specs.Answer.{Answer, done, refused, within, left}
+use Rattle.leb128.specs.Answer.{Answer, done, within, left}
 use Rattle.encoding.specs.Given.{badFlag}
-use Rattle.encoding.specs.Walk.{Trace, outcome}
 use Rattle.boolean.specs.Decoded.{Decoded}
 use Rattle.boolean.specs.Turns.{boolTrace}
 use Rattle.boolean.proofs.Clean.{Clean, clean-from, clean-append, clean-take, clean-drop, read-clean}

@@ -1,25 +1,68 @@
--- The edit of 01: block 01 13 05 7f d0 00 02 00, column 0, range 1 to 2, new reading 81, gives 01 13 05 7d d0 00 01 7f. Assumes nothing.
+-- 01's table of examples, E1 to E12 and the edit, as one statement: each row by computation. Assumes nothing.
+use Prim.Native.Nat.{_-_, _^_}
 use mathlib.Core.Path.{_≡_, refl}
-use mathlib.Core.List.{[], _∷_}
-use mathlib.Core.Option.{some}
-use lib.IntN.{pos}
+use mathlib.Core.List.{[], _∷_, _++_}
+use mathlib.Core.Option.{none, some}
+use lib.IntN.{pos, negsuc}
+use lib.ListN.{replicate}
 use Rattle.leb128.specs.Answer.{done}
+use Rattle.leb128.specs.Got.{got, bad}
 use Rattle.leb128.specs.Read.{u64At, i64At, u32At}
 use Rattle.leb128.specs.Write.{encoded}
-use Rattle.encoding.specs.Walk.{walk, outcome, outcomeOf}
+use Rattle.encoding.specs.Walk.{Ending, fault, walk, outcome, outcomeOf}
 use Rattle.encoding.specs.Head.{goneHead, begun, headAt}
 use Rattle.encoding.specs.Column.{value, repeated, single, singles, opened, runAt, traceFrom, trace}
 use Rattle.encoding.specs.Stretches.{rowOf, joinNone, joinSome, stretches}
 use Rattle.encoding.specs.Writer.{allBytes, stretchBytes, stretchesBytes, anyPresent, columnBytes}
 use Rattle.delta.specs.Sums.{heldSum, added, addUp, deltaTrace}
 use Rattle.delta.specs.Differences.{differences, deltaBytes, wideAt}
+use Rattle.boolean.specs.Turns.{counted, turnAt, boolTrace}
 use Rattle.raw_column.specs.Table.{rowsAt, inOrder, plain, sum, parse}
 use Rattle.raw_column.specs.Columns.{cut, joined, rowsBytes, tableBytes, blockBytes, newBlock}
 use Rattle.splice.specs.Edit.{accepted, edited}
-use Rattle.splice.specs.Kinds.{delta}
+use Rattle.splice.specs.Kinds.{integer, delta, boolean}
 
-pub example :
-    edited delta (0x01 ∷ 0x13 ∷ 0x05 ∷ 0x7f ∷ 0xd0 ∷ 0x00 ∷ 0x02 ∷ 0x00 ∷ []) 0 1 2 (done 0) (some (pos 81) ∷ []) 3 8
-    ≡ accepted 3 (some (pos 80) ∷ some (pos 81) ∷ some (pos 80) ∷ []) (0x01 ∷ 0x13 ∷ 0x05 ∷ 0x7d ∷ 0xd0 ∷ 0x00 ∷ 0x01 ∷ 0x7f ∷ [])
-unfolding u64At i64At u32At encoded walk outcome outcomeOf goneHead begun headAt value repeated single singles opened runAt traceFrom trace rowOf joinNone joinSome stretches allBytes stretchBytes stretchesBytes anyPresent columnBytes heldSum added addUp deltaTrace differences deltaBytes wideAt rowsAt inOrder plain sum parse cut joined rowsBytes tableBytes blockBytes newBlock edited
-example = refl
+pub record Examples : Type 0 where
+  pub e1 : u64At (0x80 ∷ 0x01 ∷ []) 0 ≡ got 128 2
+  pub e2 : u64At (0x80 ∷ 0x00 ∷ []) 0 ≡ bad 3 0
+  pub e3 : u64At (replicate 9 0xff ++ 0x02 ∷ []) 0 ≡ bad 2 0
+  pub e3-ending-01 : u64At (replicate 9 0xff ++ 0x01 ∷ []) 0 ≡ got (2 ^ 64 - 1) 10
+  pub e4 : i64At (0xc0 ∷ 0x00 ∷ []) 0 ≡ got (pos 64) 2
+  pub e4-alone : i64At (0x40 ∷ []) 0 ≡ got (negsuc 63) 1
+  pub e5 : i64At (replicate 9 0x80 ++ 0x7f ∷ []) 0 ≡ got (negsuc (2 ^ 63 - 1)) 10
+  pub e5-ending-01 : i64At (replicate 9 0x80 ++ 0x01 ∷ []) 0 ≡ bad 2 0
+  pub e6 : integer .reads (0x7f ∷ 0x01 ∷ 0x02 ∷ 0x02 ∷ []) ≡ record { readings = some 1 ∷ some 2 ∷ some 2 ∷ []; ending = Ending.sound }
+  pub e7 : integer .reads (0x00 ∷ 0x02 ∷ 0x03 ∷ 0x05 ∷ []) ≡ record { readings = none ∷ none ∷ some 5 ∷ some 5 ∷ some 5 ∷ []; ending = Ending.sound }
+  pub e8 : integer .reads (0x00 ∷ 0x03 ∷ []) ≡ record { readings = none ∷ none ∷ none ∷ []; ending = Ending.sound }
+  pub e8-written : integer .writes (none ∷ none ∷ none ∷ []) ≡ []
+  pub e9 : delta .reads (0x7f ∷ 0xd0 ∷ 0x00 ∷ 0x02 ∷ 0x00 ∷ []) ≡ record { readings = some (pos 80) ∷ some (pos 80) ∷ some (pos 80) ∷ []; ending = Ending.sound }
+  pub e10 : delta .reads (0x7f ∷ 0x05 ∷ 0x00 ∷ 0x01 ∷ 0x7f ∷ 0x01 ∷ []) ≡ record { readings = some (pos 5) ∷ none ∷ some (pos 6) ∷ []; ending = Ending.sound }
+  pub e11 : boolean .reads (0x00 ∷ 0x01 ∷ 0x02 ∷ []) ≡ record { readings = 1 ∷ 0 ∷ 0 ∷ []; ending = Ending.sound }
+  pub e12 : integer .reads (0x02 ∷ []) ≡ record { readings = []; ending = fault 1 1 }
+  -- column 0, range 1 to 2, new reading 81
+  pub edit :
+      edited delta (0x01 ∷ 0x13 ∷ 0x05 ∷ 0x7f ∷ 0xd0 ∷ 0x00 ∷ 0x02 ∷ 0x00 ∷ []) 0 1 2 (done 0) (some (pos 81) ∷ []) 3 8
+      ≡ accepted 3 (some (pos 80) ∷ some (pos 81) ∷ some (pos 80) ∷ []) (0x01 ∷ 0x13 ∷ 0x05 ∷ 0x7d ∷ 0xd0 ∷ 0x00 ∷ 0x01 ∷ 0x7f ∷ [])
+
+pub examples : Examples
+unfolding u64At i64At u32At encoded walk outcome outcomeOf goneHead begun headAt value repeated single singles opened runAt traceFrom trace rowOf joinNone joinSome stretches allBytes stretchBytes stretchesBytes anyPresent columnBytes heldSum added addUp deltaTrace differences deltaBytes wideAt counted turnAt boolTrace rowsAt inOrder plain sum parse cut joined rowsBytes tableBytes blockBytes newBlock edited
+examples =
+    record {
+      e1 = refl;
+      e2 = refl;
+      e3 = refl;
+      e3-ending-01 = refl;
+      e4 = refl;
+      e4-alone = refl;
+      e5 = refl;
+      e5-ending-01 = refl;
+      e6 = refl;
+      e7 = refl;
+      e8 = refl;
+      e8-written = refl;
+      e9 = refl;
+      e10 = refl;
+      e11 = refl;
+      e12 = refl;
+      edit = refl;
+    }

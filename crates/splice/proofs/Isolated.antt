@@ -2,29 +2,29 @@
 -- keep their bytes; an accepted edit writes the encoding of the old list with the range replaced." Assumes nothing.
 use Prim.Native.Nat.{ℕ, _+_, _-_, _^_, _≤_, _<_, min, max}
 use mathlib.Core.Path.{_≡_, refl, sym, ap, _∙_, subst}
-use mathlib.Core.List.{List, [], _++_, map}
+use mathlib.Core.List.{List, [], _++_}
 use mathlib.Core.Option.{Option, none, some}
-use mathlib.Core.Bool.{Bool, true, false, cond, _&&_}
+use mathlib.Core.Bool.{Bool, true, false, cond}
 use native.Mathlib.Omega.{arith}
 use lib.Seq.{drop-drop, length-take-le}
 use lib.ListN.{length, getD, set, take, drop, length-append, length-take, length-drop, take-append-drop}
 use lib.Dec.{ltb, leb}
 use borrow.Author.Tests.{ltb-true, leb-true}
 use Rattle.leb128.specs.Answer.{Answer, done, refused}
-use Rattle.column_specification.specs.Specification.{typeOf}
 use Rattle.encoding.specs.Limit.{limit}
 use Rattle.encoding.specs.Walk.{Ending, fault, outcomeOf, outcome}
 use Rattle.encoding.proofs.Lists.{cond-by}
-use Rattle.raw_column.specs.Table.{Tab, tab, faulty, sum, parse}
-use Rattle.raw_column.specs.Columns.{cut, tableBytes, blockBytes, newBlock}
-use Rattle.raw_column.specs.Part.{startOf}
+use Rattle.raw_column.specs.Table.{Tab, tab, sum, parse}
+use Rattle.raw_column.specs.Columns.{tableBytes, newBlock}
+use Rattle.raw_column.specs.Part.{startOf, partAt, bytesOf}
+use Rattle.raw_column.specs.Rows.{opened}
 use Rattle.raw_column.specs.Frame.{headOf, tailOf}
-use Rattle.raw_column.proofs.Blocks.{columnsOf, columns-are, Agree, columns-agree, new-block, accepted-written}
+use Rattle.raw_column.proofs.Blocks.{columnsOf, columns-are, Agree, columns-agree, new-block, accepted-written, others-kept, parts-kept}
 use Rattle.raw_column.proofs.Cutting.{cut-at}
 use Rattle.raw_column.proofs.Tables.{Below, table-fills, table-back}
 use Rattle.slots.specs.Splice.{spliced}
 use Rattle.splice.specs.Kind.{Kind}
-use Rattle.splice.specs.Edit.{Edited, stop, late, accepted, endIn, finished, editList, readBy, editColumn, editRow, editIn, edited}
+use Rattle.splice.specs.Edit.{Edited, stop, late, accepted, endIn, serves, finished, editList, readBy, editColumn, editIn, edited, answered, slotsLeft}
 
 -- the column at a position, as an edit takes it
 abbrev columnAt : List ℕ → List ℕ → ℕ → ℕ → List ℕ
@@ -125,7 +125,7 @@ module _ {A : Type 0} (K : Kind A) (s s′ specs lens : List ℕ) (next position
         rw (sound, sound′)
         (alike-if (ltb position (length specs))
         (λ e. rw same
-        (alike-if (leb (K .low) (typeOf (getD specs position 0)) && leb (typeOf (getD specs position 0)) (K .high))
+        (alike-if (serves (K .low) (K .high) (getD specs position 0))
         (λ e. alike-if (ltb end start) (λ e. both-stop 18 0) (λ e. column-alike (columnAt s′ lens next position) start end given new slots))
         (λ e. both-stop 17 0)))
         (λ e. both-stop 16 0))
@@ -145,7 +145,7 @@ one-table s s′ specs lens next bytes e l t =
 
 -- ---- what an accepted edit writes
 
-module _ {A : Type 0} (K : Kind A) (s specs lens : List ℕ) (next position start end : ℕ) (new : List A) where
+module _ {A : Type 0} (K : Kind A) (s specs lens : List ℕ) (next position start end : ℕ) (new : List A) (room : ℕ) where
   -- the old list, by the definition of reading, with the range replaced; and the column of the new block, by that of writing
   pub record Right (old : ℕ) (xs : List A) (block : List ℕ) : Type 0 where
     pub sound : K .reads (columnAt s lens next position) .ending ≡ Ending.sound
@@ -153,15 +153,16 @@ module _ {A : Type 0} (K : Kind A) (s specs lens : List ℕ) (next position star
     pub list : xs ≡ spliced (K .reads (columnAt s lens next position) .readings) start (endIn end old) new
     pub block-is : block ≡ newBlock s specs lens next position (K .writes xs)
     pub served : position < length specs
+    pub fits : length block ≤ room
 
   abbrev RightIn : Edited A → Type 0
   RightIn (stop number place) = Unit {0}
   RightIn (late number place old xs) = Unit {0}
   RightIn (accepted old xs block) = Right old xs block
 
-  right-list : (room slots : ℕ) → position < length specs → K .reads (columnAt s lens next position) .ending ≡ Ending.sound
+  right-list : (slots : ℕ) → position < length specs → K .reads (columnAt s lens next position) .ending ≡ Ending.sound
       → RightIn (editList K (K .reads (columnAt s lens next position) .readings) start end new slots room (newBlock s specs lens next position))
-  right-list room slots row e =
+  right-list slots row e =
       let old = K .reads (columnAt s lens next position) .readings in
       let xs = spliced old start (endIn end (length old)) new in
       cond-by RightIn (ltb (length old) start) (λ h. tt)
@@ -176,29 +177,100 @@ module _ {A : Type 0} (K : Kind A) (s specs lens : List ℕ) (next position star
           let old = K .reads (columnAt s lens next position) .readings in
           let xs = spliced old start (endIn end (length old)) new in
           cond-by RightIn (leb (length (newBlock s specs lens next position (K .writes xs))) room)
-          (λ h. record { sound = e; size = refl; list = refl; block-is = refl; served = row }) (λ h. tt)
+          (λ h. record { sound = e; size = refl; list = refl; block-is = refl; served = row; fits = leb-true (length (newBlock s specs lens next position (K .writes xs))) room h })
+          (λ h. tt)
 
-  right-column : (room slots : ℕ) (given : Answer) → position < length specs
+  right-column : (slots : ℕ) (given : Answer) → position < length specs
       → RightIn (editColumn K (columnAt s lens next position) start end given new slots room (newBlock s specs lens next position))
   unfolding outcome outcomeOf
-  right-column room slots (refused number place) row = tt
-  right-column room slots (done g) row = go (K .reads (columnAt s lens next position) .ending) refl
+  right-column slots (refused number place) row = tt
+  right-column slots (done g) row = go (K .reads (columnAt s lens next position) .ending) refl
     where
       go : (x : Ending) → K .reads (columnAt s lens next position) .ending ≡ x
           → RightIn (readBy K (outcomeOf (length (K .reads (columnAt s lens next position) .readings)) x) (K .reads (columnAt s lens next position) .readings)
           (λ old. editList K old start end new slots room (newBlock s specs lens next position)))
-      go Ending.sound e = right-list room slots row e
+      go Ending.sound e = right-list slots row e
       go (fault number place) e = tt
 
-  right-in : (room slots : ℕ) (given : Answer) → RightIn (editIn K s position start end given new slots room (tab specs lens next))
-  right-in room slots given =
+  right-in : (slots : ℕ) (given : Answer) → RightIn (editIn K s position start end given new slots room (tab specs lens next))
+  right-in slots given =
       cond-by RightIn (ltb position (length specs))
-      (λ h. cond-by RightIn (leb (K .low) (typeOf (getD specs position 0)) && leb (typeOf (getD specs position 0)) (K .high))
-      (λ h′. cond-by RightIn (ltb end start) (λ h″. tt) (λ h″. right-column room slots given (ltb-true position (length specs) h)))
+      (λ h. cond-by RightIn (serves (K .low) (K .high) (getD specs position 0))
+      (λ h′. cond-by RightIn (ltb end start) (λ h″. tt) (λ h″. right-column slots given (ltb-true position (length specs) h)))
       (λ h′. tt)) (λ h. tt)
 
-  pub accepted-right : (room slots : ℕ) (given : Answer) (old : ℕ) (xs : List A) (block : List ℕ) → parse s ≡ tab specs lens next
+  pub accepted-right : (slots : ℕ) (given : Answer) (old : ℕ) (xs : List A) (block : List ℕ) → parse s ≡ tab specs lens next
       → edited K s position start end given new slots room ≡ accepted old xs block → Right old xs block
   unfolding edited
-  accepted-right room slots given old xs block e h =
-      subst RightIn (ap (editIn K s position start end given new slots room) (sym e) ∙ h) (right-in room slots given)
+  accepted-right slots given old xs block e h =
+      subst RightIn (ap (editIn K s position start end given new slots room) (sym e) ∙ h) (right-in slots given)
+
+  -- the other columns keep the bytes that they had there
+  pub record Kept (column block : List ℕ) : Type 0 where
+    pub chosen : bytesOf block (partAt block position) ≡ column
+    pub others : (j : ℕ) → (j ≡ position → ⊥) → bytesOf block (partAt block j) ≡ bytesOf s (partAt s j)
+
+  pub accepted-kept : (slots : ℕ) (given : Answer) (old : ℕ) (xs : List A) (block : List ℕ) → length s < 2 ^ 64 → room < 2 ^ 64 → parse s ≡ tab specs lens next
+      → edited K s position start end given new slots room ≡ accepted old xs block → Kept (K .writes xs) block
+  accepted-kept slots given old xs block short small e h =
+      let r = accepted-right slots given old xs block e h in
+      let c = K .writes xs in
+      let b = r .block-is in
+      let f : length c < 2 ^ 64 =
+      omega (
+        arith,
+        r .fits,
+        ap length b,
+        ap length (new-block s specs lens next e position (r .served) c),
+        length-append (headOf s specs lens next position (length c)) (c ++ tailOf s lens next position),
+        length-append c (tailOf s lens next position),
+      ) in
+      let k = parts-kept s specs lens position c _ (others-kept s specs lens next position c short e (r .served) f) in
+      record {
+        chosen = ap (λ (x : List ℕ). bytesOf x (partAt x position)) b ∙ k .0;
+        others = λ j d. ap (λ (x : List ℕ). bytesOf x (partAt x j)) b ∙ k .1 j d;
+      }
+
+-- ---- in one: two blocks of one length that differ only inside columns other than the chosen one
+pub record OnlyElsewhere (s s′ specs lens : List ℕ) (next position : ℕ) : Type 0 where
+  pub bytes : Below 256 s
+  pub table : parse s ≡ tab specs lens next
+  pub size : length s′ ≡ length s
+  pub front : take next s′ ≡ take next s
+  pub chosen : columnAt s′ lens next position ≡ columnAt s lens next position
+
+alike-answer : {A : Type 0} {K : Kind A} {s s′ specs lens : List ℕ} {position : ℕ} {e e′ : Edited A} → Alike K s s′ specs lens position e e′ → answered e ≡ answered e′
+alike-answer (both-stop number place) = refl
+alike-answer (both-late number place old xs) = refl
+alike-answer (both-accepted old xs block block′ a) =
+    ap (λ (t : Tab). record { table = opened t .table; number = 0; place = 0; len = length block }) (a .table ∙ sym (a .table′))
+    ∙ ap (λ (n : ℕ). record { table = opened (parse block′) .table; number = 0; place = 0; len = n }) (a .size)
+
+pub alike-slots : {A B : Type 0} {K : Kind A} {s s′ specs lens : List ℕ} {position : ℕ} {e e′ : Edited A} (z : B) (f : A → B) (v : List B)
+    → Alike K s s′ specs lens position e e′ → slotsLeft z f e v ≡ slotsLeft z f e′ v
+alike-slots z f v (both-stop number place) = refl
+alike-slots z f v (both-late number place old xs) = refl
+alike-slots z f v (both-accepted old xs block block′ a) = refl
+
+no-row : {A : Type 0} (K : Kind A) (s specs lens : List ℕ) (next position start end : ℕ) (given : Answer) (new : List A) (slots room : ℕ)
+    → parse s ≡ tab specs lens next → ltb position (length specs) ≡ false → edited K s position start end given new slots room ≡ stop 16 0
+unfolding edited
+no-row K s specs lens next position start end given new slots room e h = rw (e, h)
+
+-- the same answer and place, the same new table, the same new column; and the slots are the same by `alike-slots`
+pub demand-3 : {A : Type 0} (K : Kind A) (s s′ specs lens : List ℕ) (next position start end : ℕ) (given : Answer) (new : List A) (slots room : ℕ)
+    → OnlyElsewhere s s′ specs lens next position → length s < 2 ^ 64 → room < 2 ^ 64
+    → (answered (edited K s position start end given new slots room) ≡ answered (edited K s′ position start end given new slots room))
+    × Alike K s s′ specs lens position (edited K s position start end given new slots room) (edited K s′ position start end given new slots room)
+demand-3 K s s′ specs lens next position start end given new slots room o short small =
+    let t′ = one-table s s′ specs lens next (o .bytes) (o .table) (o .size) (o .front) in
+    let a = go (ltb position (length specs)) refl t′ in
+    (alike-answer a, a)
+  where
+    go : (b : Bool) → ltb position (length specs) ≡ b → parse s′ ≡ tab specs lens next
+        → Alike K s s′ specs lens position (edited K s position start end given new slots room) (edited K s′ position start end given new slots room)
+    go true h t′ =
+        isolated K s s′ specs lens next position short (o .table) t′ (ltb-true position (length specs) h) (sym (o .chosen)) room small start end given new slots
+    go false h t′ =
+        rw (no-row K s specs lens next position start end given new slots room (o .table) h, no-row K s′ specs lens next position start end given new slots room t′ h)
+        (both-stop 16 0)

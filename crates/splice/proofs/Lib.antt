@@ -3,6 +3,7 @@ pub mod Counting
 pub mod Editing
 pub mod Examples
 pub mod Isolated
+pub mod OptionalEdits
 pub mod Planning
 pub mod Replacing
 pub mod Writing

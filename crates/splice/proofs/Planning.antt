@@ -1,14 +1,14 @@
 -- The checks as the code makes them, over the kind of column: one law for each way out, and that they are those of an edit. Assumes nothing.
-use Prim.Native.Nat.{ℕ, _+_, _-_, _≤_, _<_, max, min}
+use Prim.Native.Nat.{ℕ, _+_, _-_, _≤_, _<_, max}
 use mathlib.Core.Path.{_≡_, refl, sym, ap, _∙_, subst}
 use mathlib.Core.List.{List}
 use mathlib.Core.Option.{Option, none, some}
-use mathlib.Core.Bool.{Bool, true, false, cond, _&&_}
+use mathlib.Core.Bool.{Bool, true, false, cond}
 use native.Mathlib.Omega.{arith}
 use lib.Dec.{ltb, leb, eqb}
 use lib.ListN.{length, getD, take, drop}
 use lib.Seq.{getD-take}
-use borrow.Author.Tests.{ltb-true, ltb-false, lt-ltb, le-ltb, leb-true, leb-false, le-leb, lt-leb, eqb-true, eq-eqb, ne-eqb}
+use borrow.Author.Tests.{ltb-true, ltb-false, lt-ltb, le-ltb, leb-true, leb-false, le-leb, lt-leb, eq-eqb, ne-eqb}
 use Rattle.leb128.specs.Answer.{Answer, done, refused}
 use Rattle.column_specification.specs.Specification.{typeOf}
 use Rattle.encoding.specs.Limit.{limit}
@@ -18,11 +18,11 @@ use Rattle.encoding.specs.Column.{trace}
 use Rattle.rle.specs.Word.{u64E}
 use Rattle.delta.specs.Sums.{deltaTrace}
 use Rattle.boolean.specs.Turns.{boolTrace}
-use Rattle.raw_column.specs.Table.{Tab, tab, faulty, sum, parse}
+use Rattle.raw_column.specs.Table.{Tab, tab, faulty, parse}
 use Rattle.raw_column.specs.Columns.{newBlock}
 use Rattle.raw_column.specs.Part.{startOf}
 use Rattle.raw_column.specs.declared.Opened.{Opened}
-use Rattle.raw_column.proofs.Opening.{Open, specsOf, lensOf, rows-long, len-at, sum-to}
+use Rattle.raw_column.proofs.Opening.{Open, specsOf, rows-long, len-at, sum-to}
 use Rattle.raw_column.proofs.Tables.{table-fills}
 use Rattle.slots.specs.Splice.{spliced}
 use Rattle.slots.proofs.Splicing.{length-spliced}
@@ -30,7 +30,6 @@ use Rattle.splice.specs.Kind.{Kind}
 use Rattle.splice.specs.Edit.{Edited, stop, endIn, serves, flagsIn, givenOptional, finished, editList, readBy, editColumn, editIn, edited}
 use Rattle.splice.specs.Steps.{rowIn, rowFor, countAs, resultLength, resultJudged, onResult, onCount, onGiven, onRow, planned}
 use Rattle.splice.specs.Ready.{HasRow, Ready}
-use Rattle.splice.specs.declared.Row.{Row}
 use Rattle.splice.specs.declared.Row.the-variants as row
 use Rattle.splice.specs.declared.Plan.{Plan}
 use Rattle.splice.specs.declared.Plan.the-variants as plan
@@ -190,37 +189,6 @@ module _ (old start end new slots : ℕ) where
     unfolding resultJudged
     result-done m f e =
         rw (le-ltb old start h, le-ltb limit (resultLength old start end new) m, le-ltb slots (max old (resultLength old start end new)) f) (ap done e)
-
-  -- a result that is not refused
-  pub record Judged (n : ℕ) : Type 0 where
-    pub starts : start ≤ old
-    pub long : n ≡ resultLength old start end new
-    pub few : n ≤ limit
-    pub old-fits : old ≤ slots
-    pub new-fits : n ≤ slots
-
-  pub result-is : {n : ℕ} → resultJudged old start end new slots ≡ done n → Judged n
-  unfolding resultJudged
-  result-is {n} e = go (ltb old start) (ltb limit L) (ltb slots (max old L)) refl refl refl e
-    where
-      L : ℕ
-      L = resultLength old start end new
-
-      go : (a b c : Bool) → ltb old start ≡ a → ltb limit L ≡ b → ltb slots (max old L) ≡ c
-          → cond a (refused 18 0) (cond b (refused 5 0) (cond c (refused 9 0) (done L))) ≡ done n → Judged n
-      go false false false x y w q =
-          let k : L ≡ n = cc in
-          let m = ltb-false slots (max old L) w in
-          record {
-            starts = ltb-false old start x;
-            long = sym k;
-            few = omega (arith, k, ltb-false limit L y);
-            old-fits = omega (arith, m);
-            new-fits = omega (arith, m, k);
-          }
-      go false false true x y w q = let z : _≡_ {A = ℕ} 0 1 = cc in absurd (omega arith)
-      go false true c x y w q = let z : _≡_ {A = ℕ} 0 1 = cc in absurd (omega arith)
-      go true b c x y w q = let z : _≡_ {A = ℕ} 0 1 = cc in absurd (omega arith)
 
 -- ---- a column's readings, where it is sound
 pub sound-is : {R : Type 0} (t : Trace R) {n : ℕ} → outcome t ≡ done n → length (t .readings) ≡ n

@@ -6,15 +6,13 @@ use mathlib.Core.Option.{Option, none, some}
 use mathlib.Core.Bool.{Bool, true, false, cond}
 use native.Mathlib.Omega.{arith}
 use lib.Dec.{leb, eqb}
-use lib.ListN.{length, getD, take, drop, replicate, length-append, length-map, length-drop}
+use lib.ListN.{length, getD, take, drop, replicate, length-append}
 use lib.Seq.{paste, take-at, drop-at, take-length, length-take-le, drop-append-add, drop-drop}
 use borrow.Author.Tests.{leb-true, eqb-true, eqb-false, le-ltb, eq-eqb, ne-eqb}
-use Rattle.leb128.specs.Answer.{Answer, done, left}
 use Rattle.encoding.specs.Given.{given, slotList, badFlag}
 use Rattle.encoding.specs.Column.{Reading, absent, present, value}
 use Rattle.encoding.specs.Slots.{slotOf, flagOf}
 use Rattle.slots.specs.Splice.{spliced, inSlots, splicedSlots, spliceAnswer}
-use Rattle.slots.proofs.Splicing.{map-spliced, length-spliced}
 use Rattle.splice.specs.Contract.{slotIn, flagIn}
 
 -- ---- new readings as the slots hold them

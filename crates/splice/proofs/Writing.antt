@@ -5,15 +5,15 @@ use mathlib.Core.List.{List, [], _++_, append-nil}
 use mathlib.Core.Option.{Option, none, some}
 use mathlib.Core.Bool.{Bool, true, false, cond}
 use native.Mathlib.Omega.{arith}
-use lib.Dec.{leb, eqb}
+use lib.Dec.{leb}
 use lib.IntN.{ℤ, pos}
 use lib.ListN.{length, take, drop, length-drop, drop-of-length-le}
 use lib.Seq.{take-at, take-all}
 use borrow.Rule.Slice.PartMut.{putMid, postOf}
-use borrow.Author.Tests.{leb-true, leb-false, le-leb, lt-leb, eq-eqb}
+use borrow.Author.Tests.{leb-true, leb-false, le-leb, eq-eqb}
 use Rattle.leb128.specs.Answer.{Answer, done, refused, within, left}
 use Rattle.encoding.specs.Limit.{limit}
-use Rattle.encoding.specs.Given.{slotList, badFlag, flagsJudged, listJudged, sized, Encoded}
+use Rattle.encoding.specs.Given.{slotList, flagsJudged, listJudged, sized, Encoded}
 use Rattle.delta.specs.Differences.{differences, wideAt, widthJudged, deltaJudged}
 use Rattle.raw_column.specs.Columns.{newBlock}
 use Rattle.raw_column.specs.Frame.{Framed, shut, room, headOf, tailOf, framed, frameOf, frameOut}

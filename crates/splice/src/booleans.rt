@@ -61,6 +61,7 @@ fn write_u8(block: &[u8], position: usize, values: &[u8], out: &mut [u8]) -> Spl
     }
 }
 
+// The same for the slots' first `len`.
 fn finish_u8(block: &[u8], position: usize, len: usize, values: &[u8], out: &mut [u8]) -> Spliced
     requires { ⌜ HasRow (now block) position ⌝ }
     requires { ⌜ len ≤ length (now values) ⌝ }

@@ -119,6 +119,7 @@ fn write_i64(
     }
 }
 
+// The same for the slots' first `len`.
 fn finish_i64(
     block: &[u8],
     position: usize,

@@ -119,6 +119,7 @@ fn write_u64(
     }
 }
 
+// The same for the slots' first `len`.
 fn finish_u64(
     block: &[u8],
     position: usize,

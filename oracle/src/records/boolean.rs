@@ -10,7 +10,7 @@ use crate::numbers::{leb128_u64, write_u64};
 use crate::random::Random;
 use crate::{boolean, Refusal, TOO_MANY};
 
-const KIND: Kind = Kind {
+pub const KIND: Kind = Kind {
     calls: "boolean",
     slices: 1,
     stretches: 9_000,
@@ -86,7 +86,7 @@ fn long() -> Vec<Vec<bool>> {
 }
 
 /// Runs of any lengths, many of them short.
-fn chance(random: &mut Random) -> Vec<bool> {
+pub fn chance(random: &mut Random) -> Vec<bool> {
     let mut list = vec![];
     for _ in 0..random.below(12) {
         let value = random.below(2) == 1;
@@ -135,7 +135,7 @@ pub fn bytes(out: &mut String, options: &Options, random: &mut Random) {
 }
 
 /// Counts with zeros among them.
-fn wasteful(random: &mut Random) -> Vec<u8> {
+pub fn wasteful(random: &mut Random) -> Vec<u8> {
     (0..random.below(8))
         .flat_map(|_| {
             let few = random.below(4);

@@ -8,7 +8,7 @@ use crate::numbers::{leb128_i64, write_i64};
 use crate::random::Random;
 use crate::{delta, Refusal, TOO_MANY};
 
-const COLUMN: Optional = Optional {
+pub const COLUMN: Optional = Optional {
     kind: Kind {
         calls: "delta",
         slices: 2,

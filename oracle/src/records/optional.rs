@@ -151,7 +151,7 @@ pub fn bytes(out: &mut String, options: &Options, random: &mut Random, column: &
 }
 
 /// A row of runs of any sort: of one reading, of none, two alike side by side.
-fn wasteful(column: &Optional, random: &mut Random) -> Vec<u8> {
+pub fn wasteful(column: &Optional, random: &mut Random) -> Vec<u8> {
     let mut bytes = vec![];
     for _ in 0..random.below(6) {
         let count = match random.below(6) {

@@ -8,7 +8,7 @@ use crate::numbers::{leb128_u64, write_u64};
 use crate::random::Random;
 use crate::{rle, Refusal, TOO_MANY};
 
-const COLUMN: Optional = Optional {
+pub const COLUMN: Optional = Optional {
     kind: Kind {
         calls: "rle",
         slices: 2,

@@ -19,12 +19,12 @@ const TELLING: [u8; 10] = [0x00, 0x01, 0x02, 0x12, 0x13, 0x1b, 0x40, 0x41, 0x80,
 const MOST: usize = 64;
 
 /// Where the data begin, and the rows.
-type Table = (usize, Vec<Row>);
+pub type Table = (usize, Vec<Row>);
 
 /// A refusal, and its place where document 01 alone gives it.
-type Fault = (Refusal, Option<u64>);
+pub type Fault = (Refusal, Option<u64>);
 
-fn refused(record: Record, (refusal, place): Fault) -> Record {
+pub fn refused(record: Record, (refusal, place): Fault) -> Record {
     match place {
         Some(place) => record.refused_at(refusal, place),
         None => record.refused(refusal),
@@ -32,7 +32,7 @@ fn refused(record: Record, (refusal, place): Fault) -> Record {
 }
 
 /// The table of a block, checked in document 01's order.
-fn open(block: &[u8]) -> Result<Table, Fault> {
+pub fn open(block: &[u8]) -> Result<Table, Fault> {
     let by_the_rust = |refusal| (refusal, None);
     let (count, _) = leb128_u64(block).map_err(by_the_rust)?;
     if count > MOST as u64 {
@@ -55,7 +55,7 @@ fn open(block: &[u8]) -> Result<Table, Fault> {
 }
 
 /// The table's row at a position, and where its column begins in the block.
-fn row_at(block: &[u8], position: u64) -> Result<(Table, Row, usize), Fault> {
+pub fn row_at(block: &[u8], position: u64) -> Result<(Table, Row, usize), Fault> {
     let (start, rows) = open(block)?;
     match usize::try_from(position).ok().and_then(|p| rows.get(p)) {
         Some(&row) => Ok(((start, rows), row, start + row.1)),
@@ -63,14 +63,22 @@ fn row_at(block: &[u8], position: u64) -> Result<(Table, Row, usize), Fault> {
     }
 }
 
+/// Specifications, starts and lengths.
+pub fn row_lists(rows: &[Row]) -> [Vec<u64>; 3] {
+    [
+        rows.iter().map(|row| u64::from(row.0)).collect(),
+        rows.iter().map(|row| row.1 as u64).collect(),
+        rows.iter().map(|row| row.2 as u64).collect(),
+    ]
+}
+
 fn read_table(out: &mut String, block: &[u8]) {
     let record = Record::call("read_table").bytes(block);
     match open(block) {
-        Ok((start, rows)) => record.accepted().number(start as u64).lists(&[
-            rows.iter().map(|row| u64::from(row.0)).collect(),
-            rows.iter().map(|row| row.1 as u64).collect(),
-            rows.iter().map(|row| row.2 as u64).collect(),
-        ]),
+        Ok((start, rows)) => record
+            .accepted()
+            .number(start as u64)
+            .lists(&row_lists(&rows)),
         Err(fault) => refused(record, fault)
             .number(0)
             .lists(&[vec![], vec![], vec![]]),
@@ -118,7 +126,12 @@ fn bytes(out: &mut String, block: &[u8], spec: u32) {
 }
 
 /// Document 01's: the new table and the other columns, around room for the new one.
-fn frame(block: &[u8], position: u64, size: u64, out: &mut [u8]) -> Result<(usize, usize), Fault> {
+pub fn frame(
+    block: &[u8],
+    position: u64,
+    size: u64,
+    out: &mut [u8],
+) -> Result<(usize, usize), Fault> {
     let ((_, rows), row, at) = row_at(block, position)?;
     let mut head = write_u64(rows.len() as u64);
     for (i, row) in rows.iter().enumerate() {
@@ -238,7 +251,7 @@ fn many(out: &mut String, count: usize) {
 }
 
 /// A specification of any magnitude.
-fn chance_spec(random: &mut Random) -> u32 {
+pub fn chance_spec(random: &mut Random) -> u32 {
     let spec = match random.below(4) {
         0 => random.pick(&SPECS),
         1 => random.wide() as u32,
@@ -275,7 +288,7 @@ fn chance_rows(random: &mut Random) -> Vec<(u32, usize)> {
 }
 
 /// One fault: a byte cut, changed, added or taken, or a number that is overlong, too large or very long.
-fn damage(block: &mut Vec<u8>, random: &mut Random) {
+pub fn damage(block: &mut Vec<u8>, random: &mut Random) {
     let at = random.below(block.len() as u64 + 1) as usize;
     match random.below(6) {
         0 => block.truncate(at),

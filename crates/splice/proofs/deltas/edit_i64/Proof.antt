@@ -5,7 +5,7 @@ use denote.Ref.{now}
 use mathlib.Core.Path.{refl}
 use Rattle.delta.specs.Sums.{deltaTrace}
 use Rattle.splice.specs.Kinds.{delta}
-use Rattle.splice.proofs.Editing.{given-good, optional-fits, optional-good, optional-done}
+use Rattle.splice.proofs.OptionalEdits.{given-good, optional-fits, optional-good, optional-done}
 use borrow.Author.Needs.{needs}
 use Rattle.splice.proofs.deltas.edit_i64.Statement.{statement}
 use Rattle.splice.proofs.deltas.edit_i64.Tie as tie

@@ -4,7 +4,7 @@ use mathlib.Core.Path.{_∙_, sym}
 use denote.Ref.{now}
 use Rattle.splice.specs.Kinds.{delta}
 use Rattle.splice.proofs.Counting.{delta-counts}
-use Rattle.splice.proofs.Editing.{optional-stopped, optional-ready}
+use Rattle.splice.proofs.OptionalEdits.{optional-stopped, optional-ready}
 use borrow.Author.Needs.{needs}
 use Rattle.splice.proofs.deltas.splice_delta.Statement.{statement}
 use Rattle.splice.proofs.deltas.splice_delta.Tie as tie

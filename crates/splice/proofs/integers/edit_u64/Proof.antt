@@ -1,12 +1,12 @@
 -- `splice::integers::edit_u64` meets its contract: the old list loaded, its range replaced, the block written. Assumes nothing.
-use Rattle.splice.proofs.Editing.{given-good, optional-fits, optional-good, optional-done}
+use Rattle.splice.proofs.OptionalEdits.{given-good, optional-fits, optional-good, optional-done}
 use native.Mathlib.Omega.{arith}
 use denote.Ref.{now}
 use mathlib.Core.Path.{refl}
 use Rattle.encoding.specs.Column.{trace}
 use Rattle.rle.specs.Word.{u64E}
 use Rattle.splice.specs.Kinds.{integer}
-use Rattle.splice.proofs.Editing.{optional-fits, optional-good, optional-done}
+use Rattle.splice.proofs.OptionalEdits.{optional-fits, optional-good, optional-done}
 use borrow.Author.Needs.{needs}
 use Rattle.splice.proofs.integers.edit_u64.Statement.{statement}
 use Rattle.splice.proofs.integers.edit_u64.Tie as tie

@@ -3,7 +3,7 @@ use mathlib.Core.Path.{_∙_, sym}
 use denote.Ref.{now}
 use Rattle.splice.specs.Kinds.{integer}
 use Rattle.splice.proofs.Counting.{integer-counts}
-use Rattle.splice.proofs.Editing.{optional-stopped, optional-ready}
+use Rattle.splice.proofs.OptionalEdits.{optional-stopped, optional-ready}
 use borrow.Author.Needs.{needs}
 use Rattle.splice.proofs.integers.splice_integer.Statement.{statement}
 use Rattle.splice.proofs.integers.splice_integer.Tie as tie
