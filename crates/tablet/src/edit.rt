@@ -1,4 +1,6 @@
 // tablet edit FILE COLUMN START END READING.. --to OUT: a range of a column's readings replaced, in a new block.
+ghost use mathlib.Core.Path.{_≡_};
+ghost use Prim.Native.Nat.{_+_, _-_, _^_, min};
 use crate::apply;
 use crate::apply::Edited;
 use crate::apply::Range;
@@ -37,15 +39,19 @@ fn count_of(part: &[u8], kind: Kind) -> usize {
 }
 
 // How many readings the edited list has, of so many old and new ones.
-fn edited_len(old: usize, r: Range, new: usize) -> usize {
-    let kept = plus(r.start, new);
-    if old < r.end {
+fn edited_len(old: usize, start: usize, end: usize, new: usize) -> usize
+    ensures { λ r. ⌜ r ≡ min (2 ^ 64 - 1) (start + new + (old - end)) ⌝ }
+{
+    let kept = plus(start, new);
+    if old < end {
         return kept;
     }
-    plus(kept, old - r.end)
+    plus(kept, old - end)
 }
 
-fn plus(a: usize, b: usize) -> usize {
+fn plus(a: usize, b: usize) -> usize
+    ensures { λ r. ⌜ r ≡ min (2 ^ 64 - 1) (a + b) ⌝ }
+{
     if b <= usize::MAX - a {
         a + b
     } else {
@@ -106,7 +112,13 @@ fn finish(
     }
     let block = between(out, 0, e.len);
     if files::save(to, block, w.over, desk) {
-        return say_written(to, block, r.position, edited_len(w.old, r, new), desk);
+        return say_written(
+            to,
+            block,
+            r.position,
+            edited_len(w.old, r.start, r.end, new),
+            desk,
+        );
     }
     false
 }

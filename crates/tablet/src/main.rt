@@ -36,7 +36,7 @@ fn run(line: &[u8]) -> bool {
     let desk = Desk { out: 1, notes: 2 };
     let name = words::word(line, 0);
     if name.len() == 0 {
-        help::say(pen::on(2));
+        help::say(pen::text(pen::on(2), b"tablet: no command was given\n\n"));
         return false;
     }
     if check::same(name, b"script") {

@@ -20,14 +20,18 @@ struct Line {
     sound: bool,
 }
 
+// The pen behind the refusals that are there.
+fn parted(l: Line) -> Pen {
+    let p = l.pen;
+    if l.sound {
+        return p;
+    }
+    pen::text(p, b"; ")
+}
+
 // A refusal in a line: of a column, with its position.
 fn with_refusal(l: Line, position: usize, number: u8, place: usize, len: usize) -> Line {
-    let p = if l.sound {
-        l.pen
-    } else {
-        pen::text(l.pen, b"; ")
-    };
-    let q = pen::form(p, b"column %: ", position as u64, 0, 0, 0);
+    let q = pen::form(parted(l), b"column %: ", position as u64, 0, 0, 0);
     Line {
         pen: refusals::say(q, number, place, len),
         sound: false,

@@ -109,6 +109,10 @@ fn rows(p: Pen, kind: Kind, c: Scale, width: usize, values: &[u64], present: &[u
     q
 }
 
+fn tick(here: usize) -> usize {
+    if here == 0 { 0 } else { 4 }
+}
+
 // The ruler below has a gap where every reading of a place is absent.
 fn ruler(p: Pen, c: Scale, values: &[u64], present: &[u8]) -> Pen {
     let n = cell(c.places);
@@ -116,7 +120,7 @@ fn ruler(p: Pen, c: Scale, values: &[u64], present: &[u8]) -> Pen {
     let mut x = 0;
     while x < c.places {
         let s = picture::stretch_at(values, present, c.per, x);
-        q = sign(q, if s.here == 0 { 0 } else { 4 }, n);
+        q = sign(q, tick(s.here), n);
         x += 1;
     }
     pen::text(q, b"\n")
@@ -147,27 +151,28 @@ fn indices(p: Pen, c: Scale, n: usize) -> Pen {
 
 // What a place and a row stand for, and the gaps where there are any.
 fn legend(p: Pen, kind: Kind, c: Scale, gone: usize) -> Pen {
-    let per = c.per as u64;
-    let q = pen::form(p, b"across: the index, % to a place", per, 0, 0, 0);
-    let r = if kinds::is_yes_no(kind) {
-        q
-    } else {
-        say_step(q, c.step)
-    };
-    if gone == 0 {
-        return pen::text(r, b"\n");
-    }
-    if per == 1 {
-        return pen::text(r, b"; gaps: absent readings\n");
-    }
-    pen::text(
-        r,
-        b"; gaps: absent readings; \xe2\x96\x92: some of a place's absent\n",
-    )
+    let q = pen::form(p, b"across: the index, % to a place", c.per as u64, 0, 0, 0);
+    say_gaps(say_step(q, kind, c.step), c.per, gone)
 }
 
-fn say_step(p: Pen, step: u64) -> Pen {
+fn say_step(p: Pen, kind: Kind, step: u64) -> Pen {
+    if kinds::is_yes_no(kind) {
+        return p;
+    }
     pen::form(p, b"; down: the depth, % \xc2\xb5m to a row", step, 0, 0, 0)
+}
+
+fn say_gaps(p: Pen, per: usize, gone: usize) -> Pen {
+    if gone == 0 {
+        return pen::text(p, b"\n");
+    }
+    if per == 1 {
+        return pen::text(p, b"; gaps: absent readings\n");
+    }
+    pen::text(
+        p,
+        b"; gaps: absent readings; \xe2\x96\x92: some of a place's absent\n",
+    )
 }
 
 // How wide the depths are that stand beside the rows.

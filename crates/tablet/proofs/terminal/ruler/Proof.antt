@@ -25,6 +25,9 @@ loop-holds c = search needs
 stretch-at-requires : tie.Need-stretch-at-requires Inv-loop μ-loop
 stretch-at-requires c κs = search needs
 
+tick-requires : tie.Need-tick-requires Inv-loop μ-loop
+tick-requires c κs = search needs
+
 sign-requires : tie.Need-sign-requires Inv-loop μ-loop
 sign-requires c κs = search needs
 
@@ -57,6 +60,7 @@ ruler-spec =
     text-requires
     loop-holds
     stretch-at-requires
+    tick-requires
     sign-requires
     add-x
     loop-less
