@@ -109,8 +109,8 @@ fn rows(p: Pen, kind: Kind, c: Scale, width: usize, values: &[u64], present: &[u
     q
 }
 
-fn tick(here: usize) -> usize {
-    if here == 0 { 0 } else { 4 }
+fn tick(count: usize) -> usize {
+    if count == 0 { 0 } else { 4 }
 }
 
 // The ruler below has a gap where every reading of a place is absent.
