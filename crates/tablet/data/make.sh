@@ -1,0 +1,23 @@
+#!/bin/sh
+# Makes the sample blocks anew, in this folder:   sh samples/make.sh
+# wedge.block and stroke.block are made by the tool itself. cut.block is what a copy that broke off leaves. In torn.block
+# someone "mended" the table of such a copy: its lengths fit again, and the first column still ends inside a number.
+# refusals/NN.block is a smallest block for refusal NN of document 01.
+set -eu
+cd "$(dirname "$0")"
+rm -f wedge.block stroke.block
+../../../tablet script make.txt
+head -c 55 wedge.block >cut.block
+{ printf '\003\023\060\044\005\062\006'; tail -c +8 wedge.block | head -c 48; tail -c 11 wedge.block; } >torn.block
+cd refusals
+printf '\003\023\150\044' >01.block
+printf '\001\062\013\001\377\377\377\377\377\377\377\377\377\002' >02.block
+printf '\001\062\003\001\200\000' >03.block
+printf '\001\062\006\200\200\200\200\020\000' >05.block
+printf '\001\023\014\176\377\377\377\377\377\377\377\377\377\000\001' >06.block
+printf '\001\062\004\300\270\002\007' >09.block
+printf '\101' >11.block
+printf '\002\062\000\023\000' >12.block
+printf '\001\033\000' >13.block
+printf '\001\023\000\000' >15.block
+printf '\001\025\000' >17.block

@@ -1,0 +1,4 @@
+-- Laws that several functions' proofs cite.
+pub mod Digits
+pub mod Keeping
+pub mod Pictures

@@ -1,0 +1,29 @@
+-- `tablet::picture::places_for` meets its contract. Assumes nothing.
+use native.Mathlib.Omega.{arith}
+use native.Mathlib.Nat.{div-le-self}
+use Prim.Native.Nat.{_-_}
+use Rattle.tablet.proofs.Pictures.{enough}
+use borrow.Author.Needs.{needs}
+use Rattle.tablet.proofs.picture.places_for.Statement.{statement}
+use Rattle.tablet.proofs.picture.places_for.Tie as tie
+
+returns : tie.Need-returns
+returns c = search needs
+
+returns-2 : tie.Need-returns-2
+returns-2 c = search needs
+
+sub-result : tie.Need-sub-result
+sub-result c = search needs
+
+div-result : tie.Need-div-result
+div-result c = search needs
+
+add-result : tie.Need-add-result
+add-result c = let a = c .before .before .args in omega (arith, div-le-self (a .n - 1) (a .per))
+
+returns-3 : tie.Need-returns-3
+returns-3 c = let a = c .before .before .args in λ h. enough (a .n) (a .per) (omega arith) h
+
+pub places-for-spec : {M : Type 1} → statement M
+places-for-spec = tie.close (tie.spec returns returns-2 sub-result div-result add-result returns-3)

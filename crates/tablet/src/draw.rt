@@ -1,0 +1,224 @@
+// tablet draw FILE COLUMN: the readings as a picture. This file has the command and what it says in words; `terminal.rt` and `svg.rt`
+// draw.
+use crate::column;
+use crate::column::Column;
+use crate::files;
+use crate::help;
+use crate::kinds;
+use crate::kinds::Kind;
+use crate::load;
+use crate::numbers;
+use crate::pen;
+use crate::pen::Desk;
+use crate::pen::Pen;
+use crate::picture::Stretch;
+use crate::rooms;
+use crate::svg;
+use crate::terminal;
+use crate::text::between;
+use crate::words;
+use encoding::Answer;
+
+// The column that is drawn: its position, its specification and its length. Where it was not found, the length is the block's.
+pub struct Subject {
+    pub found: bool,
+    pub position: usize,
+    pub spec: u32,
+    pub len: usize,
+}
+
+// The column in words.
+pub fn say_subject(p: Pen, path: &[u8], s: Subject) -> Pen {
+    let q = pen::form(
+        pen::text(p, path),
+        b", column %",
+        s.position as u64,
+        0,
+        0,
+        0,
+    );
+    if !s.found {
+        return q;
+    }
+    let r = kinds::say(pen::text(q, b": "), s.spec, 0);
+    pen::form(r, b", id %, % bytes", kinds::id(s.spec), s.len as u64, 0, 0)
+}
+
+// What is known of all its readings.
+pub fn say_facts(p: Pen, kind: Kind, all: Stretch) -> Pen {
+    let n = total(all);
+    let q = pen::form(p, b"% readings, % absent", n as u64, all.gone as u64, 0, 0);
+    if all.here == 0 {
+        return q;
+    }
+    if kinds::is_yes_no(kind) {
+        return q;
+    }
+    say_depths(q, kind, all)
+}
+
+fn say_depths(p: Pen, kind: Kind, all: Stretch) -> Pen {
+    let low = numbers::say(pen::text(p, b"; depths from "), kind, all.low);
+    let high = numbers::say(pen::text(low, b" to "), kind, all.high);
+    pen::text(high, b" \xc2\xb5m")
+}
+
+fn total(all: Stretch) -> usize {
+    if all.gone <= usize::MAX - all.here {
+        all.here + all.gone
+    } else {
+        usize::MAX
+    }
+}
+
+// What the picture is drawn on: the terminal, where no file is named, or the file's part file; -1 where that cannot be.
+fn begin(out: &[u8], over: bool, desk: Desk) -> i32 {
+    if out.len() == 0 {
+        return desk.out;
+    }
+    files::begin(out, over, desk)
+}
+
+fn end(out: &[u8], p: Pen, desk: Desk) -> bool {
+    if out.len() == 0 {
+        return pen::finish(p, desk);
+    }
+    if files::end(out, p, desk) {
+        let q = pen::text(pen::on(desk.out), out);
+        return pen::finish(pen::text(q, b": written\n"), desk);
+    }
+    false
+}
+
+fn draw_readings(
+    fd: i32,
+    terminal: bool,
+    path: &[u8],
+    s: Subject,
+    values: &[u64],
+    present: &[u8],
+) -> Pen {
+    if terminal {
+        return terminal::picture(pen::on(fd), path, s, values, present);
+    }
+    svg::picture(pen::on(fd), path, s, values, present)
+}
+
+// A column that does not read is drawn as a break.
+fn draw_break(fd: i32, terminal: bool, path: &[u8], s: Subject, number: u8, place: usize) -> Pen {
+    if terminal {
+        return terminal::fracture(pen::on(fd), path, s, number, place);
+    }
+    svg::fracture(pen::on(fd), path, s, number, place)
+}
+
+// What was drawn, and the refusal, where there was one.
+struct Drawn {
+    pen: Pen,
+    number: u8,
+    place: usize,
+}
+
+fn draw_part(fd: i32, terminal: bool, path: &[u8], s: Subject, part: &[u8]) -> Drawn {
+    let mut values = rooms::unsigned();
+    let mut present = rooms::flags();
+    match load::load(part, kinds::of_spec(s.spec), &mut values, &mut present) {
+        Answer::Done(n) => {
+            let k = n as usize;
+            let all = rooms::front(&values, k);
+            Drawn {
+                pen: draw_readings(fd, terminal, path, s, all, between(&present, 0, k)),
+                number: 0,
+                place: 0,
+            }
+        }
+        Answer::Refused(number, place) => Drawn {
+            pen: draw_break(fd, terminal, path, s, number, place),
+            number,
+            place,
+        },
+    }
+}
+
+// A column that was not found in a block is drawn as a break too; why was said.
+fn draw_lost(path: &[u8], c: Column, out: &[u8], over: bool, desk: Desk) -> bool {
+    let fd = begin(out, over, desk);
+    if fd < 0 {
+        return false;
+    }
+    let s = Subject {
+        found: false,
+        position: c.position,
+        spec: 0,
+        len: 0,
+    };
+    end(
+        out,
+        draw_break(fd, out.len() == 0, path, s, c.number, c.place),
+        desk,
+    );
+    false
+}
+
+fn draw_found(path: &[u8], c: Column, part: &[u8], out: &[u8], over: bool, desk: Desk) -> bool {
+    let fd = begin(out, over, desk);
+    if fd < 0 {
+        return false;
+    }
+    let s = Subject {
+        found: true,
+        position: c.position,
+        spec: c.spec,
+        len: part.len(),
+    };
+    let d = draw_part(fd, out.len() == 0, path, s, part);
+    let done = end(out, d.pen, desk);
+    if d.number == 0 {
+        return done;
+    }
+    column::say_refused(path, c.position, d.number, d.place, part.len(), desk);
+    false
+}
+
+fn draw_to(line: &[u8], out: &[u8], over: bool, desk: Desk) -> bool {
+    let mut block = rooms::block();
+    let c = column::open(line, &mut block, desk);
+    if c.number == column::NO_BLOCK {
+        return false;
+    }
+    let path = words::word(line, 1);
+    if c.number != 0 {
+        return draw_lost(path, c, out, over, desk);
+    }
+    let part = between(&block, c.start, c.end);
+    draw_found(path, c, part, out, over, desk)
+}
+
+// What stands behind FILE COLUMN: nothing, --svg OUT, or --svg OUT --over.
+pub fn run(line: &[u8], desk: Desk) -> bool {
+    let all = words::count(line);
+    if all == 3 {
+        return draw_to(line, b"", false, desk);
+    }
+    if check::same(words::word(line, 3), b"--svg") {
+        return draw_svg(line, all, desk);
+    }
+    wrong(desk)
+}
+
+fn draw_svg(line: &[u8], all: usize, desk: Desk) -> bool {
+    if all == 5 {
+        return draw_to(line, words::word(line, 4), false, desk);
+    }
+    if all != 6 {
+        return wrong(desk);
+    }
+    if check::same(words::word(line, 5), b"--over") {
+        return draw_to(line, words::word(line, 4), true, desk);
+    }
+    wrong(desk)
+}
+
+fn wrong(desk: Desk) -> bool {
+    help::wrong(b"draw FILE COLUMN [--svg OUT [--over]]", desk)
+}

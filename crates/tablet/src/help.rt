@@ -1,0 +1,69 @@
+// What is said to someone who does not know the tool, or used it wrongly.
+use crate::pen;
+use crate::pen::Desk;
+use crate::pen::Pen;
+
+fn say_looking(p: Pen) -> Pen {
+    pen::text(
+        p,
+        b"tablet: looks at blocks of columns, draws them, edits them and makes them
+
+  tablet show FILE             the table: a row a column, with the number of its readings or where it breaks
+  tablet read FILE COLUMN      the readings of the column at a position, one a line, absent ones as -
+  tablet draw FILE COLUMN [--svg OUT [--over]]
+                               the readings as a picture: in the terminal, or as a file for a browser
+  tablet check FILE..          one line a file: sound, or the first refusal of each column
+",
+    )
+}
+
+fn say_writing(p: Pen) -> Pen {
+    pen::text(
+        p,
+        b"  tablet edit FILE COLUMN START END READING.. --to OUT [--over]
+                               replaces the readings from START up to, not including, END by those given (none: takes
+                               them out), and writes the new block to OUT
+  tablet make OUT COLUMN.. [--over]
+                               a new block of columns, each TYPE:ID=READING,READING,..  as in
+                               tablet make my.block delta:1=80,80,-,81 boolean:2=1,0,0 integer:3=7,7,7
+  tablet script FILE           runs each line of FILE as a command (without the word tablet; # begins a remark)
+",
+    )
+}
+
+fn say_rules(p: Pen) -> Pen {
+    pen::text(
+        p,
+        b"
+A column's position counts from 0. Types are delta (whole numbers, kept as differences), integer and actor (from 0 on)
+and boolean. A reading is a number, - where it is absent, or true, false, 1, 0; 80x5 stands for five times 80.
+OUT is written completely or not at all. A file that is there already, the input among them, is left as it is, unless
+--over is the last word: then it is replaced. Blocks have at most 262,144 bytes, and columns at most 32,768 readings.
+What goes wrong is said on standard error, and ./tablet then ends with status 1.
+",
+    )
+}
+
+pub fn say(p: Pen) -> Pen {
+    say_rules(say_writing(say_looking(p)))
+}
+
+pub fn run(desk: Desk) -> bool {
+    pen::finish(say(pen::on(desk.out)), desk)
+}
+
+// A command that is not used as it is meant to be.
+pub fn wrong(form: &[u8], desk: Desk) -> bool {
+    let p = pen::text(
+        pen::on(desk.notes),
+        b"tablet: this command is used as: tablet ",
+    );
+    pen::text(pen::text(p, form), b"\n");
+    false
+}
+
+pub fn unknown(name: &[u8], desk: Desk) -> bool {
+    let p = pen::text(pen::on(desk.notes), b"tablet: there is no command \"");
+    pen::text(pen::text(p, name), b"\"; tablet help lists them\n");
+    false
+}

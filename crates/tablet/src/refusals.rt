@@ -1,0 +1,63 @@
+// Document 01's refusals in words. Each text stands here once.
+use crate::pen;
+use crate::pen::Pen;
+use crate::words;
+
+// Refusal n is word n.
+fn say_words(p: Pen, number: u8) -> Pen {
+    let all = b"refused\0\
+the bytes end inside the number\0\
+a number is too large for its type\0\
+a number is longer than it need be\0\
+a zero stands where none may be\0\
+the list passes 4,294,967,295 readings\0\
+the sum of the differences leaves 64 bits\0\
+the step from the reading before is too large to be written\0\
+the lists do not fit together\0\
+the column has more than the 32,768 readings that this tool takes\0\
+the new block is larger than the 262,144 bytes that this tool takes\0\
+there are more than 64 columns\0\
+the columns are not in order: by the id's remainder by 16, then by type\0\
+a column is compressed\0\
+the columns are longer than the data\0\
+the columns are shorter than the data\0\
+there is no column at this position\0\
+columns of this type are not read here\0\
+the range ends before it starts, or starts behind the list\0\
+an id is at most 268,435,455\0";
+    pen::text(p, words::word(all, number as usize))
+}
+
+// Places inside bytes are bytes, and those inside a list are indices; the other refusals have none.
+fn say_place(p: Pen, number: u8, place: usize) -> Pen {
+    let n = number as u64;
+    if number < 7 {
+        return pen::form(p, b" at byte % (refusal %)", place as u64, n, 0, 0);
+    }
+    if number == 7 {
+        return pen::form(p, b", at reading % (refusal %)", place as u64, n, 0, 0);
+    }
+    pen::form(p, b" (refusal %)", n, 0, 0, 0)
+}
+
+// A refusal in words, with its place and its number. Where 1 has the end of all `len` bytes as its place, a number was due there.
+pub fn say(p: Pen, number: u8, place: usize, len: usize) -> Pen {
+    if number == 1 {
+        if place == len {
+            return say_place(
+                pen::text(p, b"the bytes end before the number that is due"),
+                number,
+                place,
+            );
+        }
+    }
+    say_place(say_words(p, number), number, place)
+}
+
+// A refusal of a table. What is amiss in its bytes is said to be the table's.
+pub fn say_of_table(p: Pen, number: u8, place: usize, len: usize) -> Pen {
+    if number < 7 {
+        return say(pen::text(p, b"in the table "), number, place, len);
+    }
+    say(p, number, place, len)
+}

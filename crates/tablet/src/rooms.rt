@@ -1,0 +1,48 @@
+// Room for blocks and readings, and how much of them the tool takes.
+ghost use mathlib.Core.Path.{_≡_};
+ghost use lib.ListN.{length};
+
+// How many bytes a block or a script has at most.
+pub const BLOCK: usize = 262144;
+
+// How many readings a column has at most.
+pub const READINGS: usize = 32768;
+
+pub fn block() -> [u8; 262144]
+    ensures { λ r. ⌜ 262144 ≡ length r ⌝ }
+{
+    [0; 262144]
+}
+
+pub fn unsigned() -> [u64; 32768]
+    ensures { λ r. ⌜ 32768 ≡ length r ⌝ }
+{
+    [0; 32768]
+}
+
+pub fn signed() -> [i64; 32768]
+    ensures { λ r. ⌜ 32768 ≡ length r ⌝ }
+{
+    [0; 32768]
+}
+
+pub fn flags() -> [u8; 32768]
+    ensures { λ r. ⌜ 32768 ≡ length r ⌝ }
+{
+    [0; 32768]
+}
+
+// The first n of a list, or none where it has fewer.
+pub fn front(s: &[u64], n: usize) -> &[u64] {
+    if s.len() < n {
+        return &s[..0];
+    }
+    &s[0..n]
+}
+
+pub fn front_signed(s: &[i64], n: usize) -> &[i64] {
+    if s.len() < n {
+        return &s[..0];
+    }
+    &s[0..n]
+}

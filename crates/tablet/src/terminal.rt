@@ -1,0 +1,216 @@
+// The picture in the terminal: a row a step of depth, a place across for one or more readings. Depth grows downward, as in clay.
+ghost use mathlib.Core.Path.{_≡_};
+ghost use Rattle.tablet.specs.Picture.{shadeOf};
+use crate::draw;
+use crate::draw::Subject;
+use crate::kinds;
+use crate::kinds::Kind;
+use crate::numbers;
+use crate::pen;
+use crate::pen::Pen;
+use crate::picture;
+use crate::picture::Scale;
+use crate::picture::Stretch;
+use crate::refusals;
+use crate::text::after;
+use crate::text::between;
+
+const WIDTH: usize = 72;
+
+// How many characters a place across takes: few readings are drawn wide.
+fn cell(places: usize) -> usize {
+    if places <= 18 {
+        return 4;
+    }
+    if places <= 36 {
+        return 2;
+    }
+    1
+}
+
+// What stands at a place of a row: 0 air or a gap, 1 the trace of readings, 2 the trace where some are absent, 3 clay below it. The trace
+// goes from the row `top` to the row `bottom`; `here` and `gone` are how many readings are present and absent.
+fn shade(row: usize, top: usize, bottom: usize, here: usize, gone: usize) -> usize
+    ensures { λ r. ⌜ r ≡ shadeOf row top bottom here gone ⌝ }
+{
+    if here == 0 {
+        return 0;
+    }
+    if row < top {
+        return 0;
+    }
+    if bottom < row {
+        return 3;
+    }
+    if gone == 0 {
+        return 1;
+    }
+    2
+}
+
+fn shade_at(c: Scale, row: usize, s: Stretch) -> usize {
+    let top = picture::row_of(s.low, c.base, c.step);
+    let bottom = picture::row_of(s.high, c.base, c.step);
+    shade(row, top, bottom, s.here, s.gone)
+}
+
+// A shade, so many characters of three bytes each wide; 4 is the ruler.
+fn sign(p: Pen, shade: usize, n: usize) -> Pen {
+    if shade == 0 {
+        return pen::blanks(p, n);
+    }
+    if 4 < shade {
+        return p;
+    }
+    if 4 < n {
+        return p;
+    }
+    let all =
+        b"\xe2\x96\x88\xe2\x96\x88\xe2\x96\x88\xe2\x96\x88\xe2\x96\x92\xe2\x96\x92\xe2\x96\x92\xe2\x96\x92\xe2\x96\x91\xe2\x96\x91\xe2\x96\x91\xe2\x96\x91\xe2\x94\x80\xe2\x94\x80\xe2\x94\x80\xe2\x94\x80";
+    let at = 12 * (shade - 1);
+    pen::text(p, between(all, at, at + 3 * n))
+}
+
+// A yes or no has no clay.
+fn clay(kind: Kind, shade: usize) -> usize {
+    if kinds::is_yes_no(kind) {
+        if shade == 3 {
+            return 0;
+        }
+    }
+    shade
+}
+
+fn row(p: Pen, kind: Kind, c: Scale, row: usize, values: &[u64], present: &[u8]) -> Pen {
+    let n = cell(c.places);
+    let mut q = p;
+    let mut x = 0;
+    while x < c.places {
+        let s = picture::stretch_at(values, present, c.per, x);
+        q = sign(q, clay(kind, shade_at(c, row, s)), n);
+        x += 1;
+    }
+    pen::text(q, b"\n")
+}
+
+fn label(p: Pen, kind: Kind, c: Scale, row: usize, width: usize) -> Pen {
+    let depth = picture::depth_of(row, c.base, c.step);
+    let q = pen::blanks(p, pen::short_of(numbers::width(kind, depth), width));
+    pen::text(numbers::say(q, kind, depth), b" |")
+}
+
+fn rows(p: Pen, kind: Kind, c: Scale, width: usize, values: &[u64], present: &[u8]) -> Pen {
+    let mut q = p;
+    let mut r = 0;
+    while r < c.rows {
+        q = row(label(q, kind, c, r, width), kind, c, r, values, present);
+        r += 1;
+    }
+    q
+}
+
+fn tick(count: usize) -> usize {
+    if count == 0 { 0 } else { 4 }
+}
+
+// The ruler below has a gap where every reading of a place is absent.
+fn ruler(p: Pen, c: Scale, values: &[u64], present: &[u8]) -> Pen {
+    let n = cell(c.places);
+    let mut q = pen::text(p, b" +");
+    let mut x = 0;
+    while x < c.places {
+        let s = picture::stretch_at(values, present, c.per, x);
+        q = sign(q, tick(s.here), n);
+        x += 1;
+    }
+    pen::text(q, b"\n")
+}
+
+// How many characters all places take.
+fn across(places: usize) -> usize {
+    if places <= 18 {
+        return 4 * places;
+    }
+    if places <= 36 {
+        return 2 * places;
+    }
+    places
+}
+
+// The first and the last index, below the ends of the ruler.
+fn indices(p: Pen, c: Scale, n: usize) -> Pen {
+    let q = pen::text(p, b"  0");
+    if n < 2 {
+        return pen::text(q, b"\n");
+    }
+    let last = pen::short_of(1, n) as u64;
+    let used = after(pen::digits(last));
+    let r = pen::blanks(q, pen::short_of(used, across(c.places)));
+    pen::form(r, b"%\n", last, 0, 0, 0)
+}
+
+// What a place and a row stand for, and the gaps where there are any.
+fn legend(p: Pen, kind: Kind, c: Scale, gone: usize) -> Pen {
+    let q = pen::form(p, b"across: the index, % to a place", c.per as u64, 0, 0, 0);
+    say_gaps(say_step(q, kind, c.step), c.per, gone)
+}
+
+fn say_step(p: Pen, kind: Kind, step: u64) -> Pen {
+    if kinds::is_yes_no(kind) {
+        return p;
+    }
+    pen::form(p, b"; down: the depth, % \xc2\xb5m to a row", step, 0, 0, 0)
+}
+
+fn say_gaps(p: Pen, per: usize, gone: usize) -> Pen {
+    if gone == 0 {
+        return pen::text(p, b"\n");
+    }
+    if per == 1 {
+        return pen::text(p, b"; gaps: absent readings\n");
+    }
+    pen::text(
+        p,
+        b"; gaps: absent readings; \xe2\x96\x92: some of a place's absent\n",
+    )
+}
+
+// How wide the depths are that stand beside the rows.
+fn label_width(kind: Kind, base: u64, high: u64) -> usize {
+    let first = numbers::width(kind, base);
+    let last = numbers::width(kind, high);
+    if first < last { last } else { first }
+}
+
+fn picture_of(p: Pen, kind: Kind, all: Stretch, values: &[u64], present: &[u8]) -> Pen {
+    let c = picture::scale_for(all, kind, values.len(), WIDTH);
+    let width = label_width(kind, c.base, all.high);
+    let q = rows(p, kind, c, width, values, present);
+    let r = ruler(pen::blanks(q, width), c, values, present);
+    let t = indices(pen::blanks(r, width), c, values.len());
+    legend(t, kind, c, all.gone)
+}
+
+// A column that reads.
+pub fn picture(p: Pen, path: &[u8], s: Subject, values: &[u64], present: &[u8]) -> Pen {
+    let kind = kinds::of_spec(s.spec);
+    let all = picture::stretch_of(values, present, 0, values.len());
+    let q = pen::text(draw::say_subject(p, path, s), b"\n");
+    let r = draw::say_facts(q, kind, all);
+    if all.here == 0 {
+        return pen::text(r, b"\nthere is no depth to draw\n");
+    }
+    picture_of(pen::text(r, b"\n\n"), kind, all, values, present)
+}
+
+// A column that does not read: no clay, and no reading.
+pub fn fracture(p: Pen, path: &[u8], s: Subject, number: u8, place: usize) -> Pen {
+    let q = pen::text(
+        draw::say_subject(p, path, s),
+        b"\n\n  /\\/\\/\\/\\/\\/\\/\\/\\/\\/\\/\\/\\/\\/\\/\\/\\/\\/\\/\\/\\\n  BROKEN: ",
+    );
+    pen::text(
+        refusals::say(q, number, place, s.len),
+        b"\n  \\/\\/\\/\\/\\/\\/\\/\\/\\/\\/\\/\\/\\/\\/\\/\\/\\/\\/\\/\\/\n\nno reading is drawn: a column reads whole or not at all\n",
+    )
+}
