@@ -237,11 +237,11 @@ grundavok_spliced grundavok_splice_boolean(const uint8_t *block, size_t block_le
 /* The first `old` slots hold a list; its elements from start up to end are replaced in place. count is the new list's length; the slots
  * behind it are 0 up to `old`, the rest unchanged. Refusals: 18 for end below start, or end beyond `old`; then 9 where slots are fewer
  * than the longer of old and new list. A refusal changes no slot. */
-grundavok_counted grundavok_slots_splice_u64(uint64_t *slots, size_t slots_len, size_t old, size_t start, size_t end,
+grundavok_counted grundavok_slots_splice_u64(uint64_t *held, size_t held_len, size_t old, size_t start, size_t end,
                                              const uint64_t *new_values, size_t new_values_len);
-grundavok_counted grundavok_slots_splice_i64(int64_t *slots, size_t slots_len, size_t old, size_t start, size_t end,
+grundavok_counted grundavok_slots_splice_i64(int64_t *held, size_t held_len, size_t old, size_t start, size_t end,
                                              const int64_t *new_values, size_t new_values_len);
-grundavok_counted grundavok_slots_splice_u8(uint8_t *slots, size_t slots_len, size_t old, size_t start, size_t end,
+grundavok_counted grundavok_slots_splice_u8(uint8_t *held, size_t held_len, size_t old, size_t start, size_t end,
                                             const uint8_t *new_values, size_t new_values_len);
 
 #ifdef __cplusplus

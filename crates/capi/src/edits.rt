@@ -17,13 +17,13 @@ pub extern "C" fn grundavok_splice_integer(
     position: usize,
     start: usize,
     end: usize,
-    new: &[u64],
-    flags: &[u8],
+    new_values: &[u64],
+    new_present: &[u8],
     values: &mut [u64],
     present: &mut [u8],
     out: &mut [u8],
 ) -> Spliced
-    ensures { λ r. ⌜ ToldEdit (OptionalSpliced integer 0 (now (block .entry)) position start end (now (new .entry)) (now (flags .entry))
+    ensures { λ r. ⌜ ToldEdit (OptionalSpliced integer 0 (now (block .entry)) position start end (now («new_values» .entry)) (now («new_present» .entry))
         (now (values .entry)) (now (values .exit)) (now (present .entry)) (now (present .exit)) (now (out .entry)) (now (out .exit))) r ⌝ }
 {
     answers::spliced(splice::splice_integer(
@@ -31,8 +31,8 @@ pub extern "C" fn grundavok_splice_integer(
         position,
         start,
         end,
-        new,
-        flags,
+        new_values,
+        new_present,
         values,
         present,
         out,
@@ -45,13 +45,13 @@ pub extern "C" fn grundavok_splice_delta(
     position: usize,
     start: usize,
     end: usize,
-    new: &[i64],
-    flags: &[u8],
+    new_values: &[i64],
+    new_present: &[u8],
     values: &mut [i64],
     present: &mut [u8],
     out: &mut [u8],
 ) -> Spliced
-    ensures { λ r. ⌜ ToldEdit (OptionalSpliced delta (pos 0) (now (block .entry)) position start end (now (new .entry)) (now (flags .entry))
+    ensures { λ r. ⌜ ToldEdit (OptionalSpliced delta (pos 0) (now (block .entry)) position start end (now («new_values» .entry)) (now («new_present» .entry))
         (now (values .entry)) (now (values .exit)) (now (present .entry)) (now (present .exit)) (now (out .entry)) (now (out .exit))) r ⌝ }
 {
     answers::spliced(splice::splice_delta(
@@ -59,8 +59,8 @@ pub extern "C" fn grundavok_splice_delta(
         position,
         start,
         end,
-        new,
-        flags,
+        new_values,
+        new_present,
         values,
         present,
         out,
@@ -73,57 +73,57 @@ pub extern "C" fn grundavok_splice_boolean(
     position: usize,
     start: usize,
     end: usize,
-    new: &[u8],
+    new_values: &[u8],
     values: &mut [u8],
     out: &mut [u8],
 ) -> Spliced
-    ensures { λ r. ⌜ ToldEdit (BooleanSpliced boolean (now (block .entry)) position start end (now (new .entry))
+    ensures { λ r. ⌜ ToldEdit (BooleanSpliced boolean (now (block .entry)) position start end (now («new_values» .entry))
         (now (values .entry)) (now (values .exit)) (now (out .entry)) (now (out .exit))) r ⌝ }
 {
-    answers::spliced(splice::splice_boolean(block, position, start, end, new, values, out))
+    answers::spliced(splice::splice_boolean(block, position, start, end, new_values, values, out))
 }
 
 #[no_mangle]
 pub extern "C" fn grundavok_slots_splice_u64(
-    s: &mut [u64],
+    held: &mut [u64],
     old: usize,
     start: usize,
     end: usize,
-    new: &[u64],
+    new_values: &[u64],
 ) -> Counted
-    ensures { λ r. ⌜ r ≡ counted (spliceAnswer (length (now (s .entry))) old start end (length (now (new .entry)))) ⌝ }
-    ensures { λ _. ⌜ now (s .exit) ≡ splicedSlots 0 (spliceAnswer (length (now (s .entry))) old start end (length (now (new .entry))))
-        (now (s .entry)) old start end (now (new .entry)) ⌝ }
+    ensures { λ r. ⌜ r ≡ counted (spliceAnswer (length (now (held .entry))) old start end (length (now («new_values» .entry)))) ⌝ }
+    ensures { λ _. ⌜ now (held .exit) ≡ splicedSlots 0 (spliceAnswer (length (now (held .entry))) old start end (length (now («new_values» .entry))))
+        (now (held .entry)) old start end (now («new_values» .entry)) ⌝ }
 {
-    answers::answer(slots::splice_u64(s, old, start, end, new))
+    answers::answer(slots::splice_u64(held, old, start, end, new_values))
 }
 
 #[no_mangle]
 pub extern "C" fn grundavok_slots_splice_i64(
-    s: &mut [i64],
+    held: &mut [i64],
     old: usize,
     start: usize,
     end: usize,
-    new: &[i64],
+    new_values: &[i64],
 ) -> Counted
-    ensures { λ r. ⌜ r ≡ counted (spliceAnswer (length (now (s .entry))) old start end (length (now (new .entry)))) ⌝ }
-    ensures { λ _. ⌜ now (s .exit) ≡ splicedSlots (pos 0) (spliceAnswer (length (now (s .entry))) old start end (length (now (new .entry))))
-        (now (s .entry)) old start end (now (new .entry)) ⌝ }
+    ensures { λ r. ⌜ r ≡ counted (spliceAnswer (length (now (held .entry))) old start end (length (now («new_values» .entry)))) ⌝ }
+    ensures { λ _. ⌜ now (held .exit) ≡ splicedSlots (pos 0) (spliceAnswer (length (now (held .entry))) old start end (length (now («new_values» .entry))))
+        (now (held .entry)) old start end (now («new_values» .entry)) ⌝ }
 {
-    answers::answer(slots::splice_i64(s, old, start, end, new))
+    answers::answer(slots::splice_i64(held, old, start, end, new_values))
 }
 
 #[no_mangle]
 pub extern "C" fn grundavok_slots_splice_u8(
-    s: &mut [u8],
+    held: &mut [u8],
     old: usize,
     start: usize,
     end: usize,
-    new: &[u8],
+    new_values: &[u8],
 ) -> Counted
-    ensures { λ r. ⌜ r ≡ counted (spliceAnswer (length (now (s .entry))) old start end (length (now (new .entry)))) ⌝ }
-    ensures { λ _. ⌜ now (s .exit) ≡ splicedSlots 0 (spliceAnswer (length (now (s .entry))) old start end (length (now (new .entry))))
-        (now (s .entry)) old start end (now (new .entry)) ⌝ }
+    ensures { λ r. ⌜ r ≡ counted (spliceAnswer (length (now (held .entry))) old start end (length (now («new_values» .entry)))) ⌝ }
+    ensures { λ _. ⌜ now (held .exit) ≡ splicedSlots 0 (spliceAnswer (length (now (held .entry))) old start end (length (now («new_values» .entry))))
+        (now (held .entry)) old start end (now («new_values» .entry)) ⌝ }
 {
-    answers::answer(slots::splice_u8(s, old, start, end, new))
+    answers::answer(slots::splice_u8(held, old, start, end, new_values))
 }
