@@ -1,7 +1,10 @@
-# The declarations of C that the boundary's source stands for: a line for each struct and for each function, as the header has them but for
-# its comments and line breaks. Input: crates/capi/src/*.rt.
+# The declarations of C that a source stands for: a line for each struct and for each function, as the header has them but for its comments
+# and line breaks. Input: crates/capi/src/*.rt, or what Rust declares of the boundary, bindings/rust/src/raw.rs.
 
 function c_type(t) {
+    sub(/<u/, "U", t) # Number<u64> of Rust is NumberU64
+    sub(/<i/, "I", t)
+    sub(/>/, "", t)
     if (t == "usize") return "size_t"
     if (t == "bool") return "bool"
     if (t ~ /^u[0-9]+$/) return "uint" substr(t, 2) "_t"
@@ -20,6 +23,8 @@ function snake(t,    out, i, ch) {
 
 # a parameter; a slice is a pointer and a length
 function c_param(name, t,    element) {
+    if (t ~ /^\*const /) return "const " c_type(substr(t, 8)) " *" name
+    if (t ~ /^\*mut /) return c_type(substr(t, 6)) " *" name
     if (t !~ /^&/) return c_type(t) " " name
     element = t
     gsub(/[&\[\] ]|mut/, "", element)
@@ -47,9 +52,10 @@ function pair(text,    at) {
 
 END {
     gsub(/ +/, " ", text)
-    n = split(text, item, /#\[no_mangle\] pub extern "C" fn |#\[repr\(C\)\] pub struct /)
+    n = split(text, item, /#\[no_mangle\] pub extern "C" fn |#\[repr\(C\)\] pub struct |; pub fn |extern "C" { pub fn /)
     for (i = 2; i <= n; i++) {
-        if (item[i] ~ /^[A-Z]/) struct(item[i]); else prototype(item[i])
+        if (item[i] ~ /^[A-Z][A-Za-z0-9]* /) struct(item[i])
+        if (item[i] ~ /^grundavok_/) prototype(item[i])
     }
 }
 
@@ -63,5 +69,6 @@ function prototype(s,    params, k, count, line, result) {
     count = split(substr(s, index(s, "(") + 1, index(s, ")") - index(s, "(") - 1), params, ",")
     for (k = 1; k <= count; k++) if (pair(params[k])) line = line (line == "" ? "" : ", ") c_param(name, type)
     result = substr(s, index(s, "-> ") + 3)
-    print c_type(substr(result, 1, index(result, " ") - 1)) " " substr(s, 1, index(s, "(") - 1) "(" line ");"
+    sub(/[ ;].*/, "", result)
+    print c_type(result) " " substr(s, 1, index(s, "(") - 1) "(" line ");"
 }
