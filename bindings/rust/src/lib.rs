@@ -1,0 +1,39 @@
+//! Safe Rust over the boundary of Grundavok (`include/grundavok.h`): slices in, lists out, names as in the crate automerge.
+//!
+//! Any bytes, lists and ranges may go to any function. What is refused gets a [`Refusal`], the number and the place of document 01.
+
+pub mod boolean;
+pub mod column_specification;
+pub mod delta;
+pub mod leb128;
+mod lists;
+mod raw;
+pub mod raw_column;
+pub mod rle;
+pub mod splice;
+
+use std::fmt;
+
+/// Why a call was refused, and where: `include/grundavok.h` lists the numbers.
+#[derive(Clone, Copy, Debug, PartialEq, Eq)]
+pub struct Refusal {
+    pub number: u8,
+    pub place: usize,
+}
+
+impl fmt::Display for Refusal {
+    fn fmt(&self, f: &mut fmt::Formatter<'_>) -> fmt::Result {
+        write!(f, "refusal {} at {}", self.number, self.place)
+    }
+}
+
+impl std::error::Error for Refusal {}
+
+/// An answer of the boundary: `value` where its number is 0.
+fn judged<T>(number: u8, place: usize, value: T) -> Result<T, Refusal> {
+    if number == 0 {
+        Ok(value)
+    } else {
+        Err(Refusal { number, place })
+    }
+}

@@ -1,0 +1,180 @@
+//! The boundary as it is linked: the structs and functions of `include/grundavok.h`, in its order.
+
+#[repr(C)]
+pub struct Number<T> {
+    pub number: u8,
+    pub place: usize,
+    pub value: T,
+    pub next: usize,
+}
+
+#[repr(C)]
+pub struct Counted {
+    pub number: u8,
+    pub place: usize,
+    pub count: u64,
+}
+
+#[repr(C)]
+pub struct Specification {
+    pub number: u8,
+    pub place: usize,
+    pub spec: u32,
+}
+
+#[repr(C)]
+pub struct Table {
+    pub specs: [u32; 64],
+    pub starts: [u64; 64],
+    pub lens: [u64; 64],
+    pub rows: usize,
+}
+
+#[repr(C)]
+pub struct Opened {
+    pub number: u8,
+    pub place: usize,
+    pub start: usize,
+    pub table: Table,
+}
+
+#[repr(C)]
+pub struct Part {
+    pub number: u8,
+    pub place: usize,
+    pub start: usize,
+    pub len: usize,
+}
+
+#[repr(C)]
+pub struct Frame {
+    pub number: u8,
+    pub place: usize,
+    pub at: usize,
+    pub len: usize,
+}
+
+#[repr(C)]
+pub struct Spliced {
+    pub number: u8,
+    pub place: usize,
+    pub len: usize,
+    pub table: Table,
+}
+
+// Every pointer is that of a slice of its length: never null, aligned, and, where it is `*mut`, lent by one `&mut`. That is all that the
+// boundary asks of its callers.
+extern "C" {
+    pub fn grundavok_leb128_u64(s: *const u8, s_len: usize, at: usize) -> Number<u64>;
+    pub fn grundavok_leb128_i64(s: *const u8, s_len: usize, at: usize) -> Number<i64>;
+    pub fn grundavok_leb128_u32(s: *const u8, s_len: usize, at: usize) -> Number<u32>;
+    pub fn grundavok_nonzero_leb128_u64(s: *const u8, s_len: usize, at: usize) -> Number<u64>;
+    pub fn grundavok_len_u64(v: u64) -> usize;
+    pub fn grundavok_len_i64(x: i64) -> usize;
+    pub fn grundavok_put_u64(v: u64, out: *mut u8, out_len: usize, at: usize) -> Counted;
+    pub fn grundavok_put_i64(x: i64, out: *mut u8, out_len: usize, at: usize) -> Counted;
+    pub fn grundavok_write_u64(v: u64, out: *mut u8, out_len: usize) -> Counted;
+    pub fn grundavok_write_i64(x: i64, out: *mut u8, out_len: usize) -> Counted;
+
+    pub fn grundavok_spec_new(id: u32, col_type: u8, deflate: bool) -> Specification;
+    pub fn grundavok_spec_id(spec: u32) -> u32;
+    pub fn grundavok_spec_col_type(spec: u32) -> u8;
+    pub fn grundavok_spec_deflate(spec: u32) -> bool;
+    pub fn grundavok_spec_normalize(spec: u32) -> u32;
+
+    pub fn grundavok_rle_count(s: *const u8, s_len: usize) -> Counted;
+    pub fn grundavok_delta_count(s: *const u8, s_len: usize) -> Counted;
+    pub fn grundavok_boolean_count(s: *const u8, s_len: usize) -> Counted;
+    pub fn grundavok_rle_decode(
+        s: *const u8,
+        s_len: usize,
+        values: *mut u64,
+        values_len: usize,
+        present: *mut u8,
+        present_len: usize,
+    ) -> Counted;
+    pub fn grundavok_delta_decode(
+        s: *const u8,
+        s_len: usize,
+        values: *mut i64,
+        values_len: usize,
+        present: *mut u8,
+        present_len: usize,
+    ) -> Counted;
+    pub fn grundavok_boolean_decode(s: *const u8, s_len: usize, values: *mut u8, values_len: usize) -> Counted;
+    pub fn grundavok_rle_encoded_len(values: *const u64, values_len: usize, present: *const u8, present_len: usize) -> Counted;
+    pub fn grundavok_delta_encoded_len(values: *const i64, values_len: usize, present: *const u8, present_len: usize) -> Counted;
+    pub fn grundavok_boolean_encoded_len(values: *const u8, values_len: usize) -> Counted;
+    pub fn grundavok_rle_encode(
+        values: *const u64,
+        values_len: usize,
+        present: *const u8,
+        present_len: usize,
+        out: *mut u8,
+        out_len: usize,
+    ) -> Counted;
+    pub fn grundavok_delta_encode(
+        values: *const i64,
+        values_len: usize,
+        present: *const u8,
+        present_len: usize,
+        out: *mut u8,
+        out_len: usize,
+    ) -> Counted;
+    pub fn grundavok_boolean_encode(values: *const u8, values_len: usize, out: *mut u8, out_len: usize) -> Counted;
+    pub fn grundavok_boolean_maybe_encoded_len(values: *const u8, values_len: usize) -> Counted;
+    pub fn grundavok_boolean_maybe_encode(values: *const u8, values_len: usize, out: *mut u8, out_len: usize) -> Counted;
+
+    pub fn grundavok_read_table(block: *const u8, block_len: usize) -> Opened;
+    pub fn grundavok_locate(block: *const u8, block_len: usize, position: usize) -> Part;
+    pub fn grundavok_locate_spec(block: *const u8, block_len: usize, spec: u32) -> Part;
+    pub fn grundavok_put_frame(block: *const u8, block_len: usize, position: usize, size: usize, out: *mut u8, out_len: usize) -> Frame;
+
+    pub fn grundavok_splice_integer(
+        block: *const u8,
+        block_len: usize,
+        position: usize,
+        start: usize,
+        end: usize,
+        new_values: *const u64,
+        new_values_len: usize,
+        new_present: *const u8,
+        new_present_len: usize,
+        values: *mut u64,
+        values_len: usize,
+        present: *mut u8,
+        present_len: usize,
+        out: *mut u8,
+        out_len: usize,
+    ) -> Spliced;
+    pub fn grundavok_splice_delta(
+        block: *const u8,
+        block_len: usize,
+        position: usize,
+        start: usize,
+        end: usize,
+        new_values: *const i64,
+        new_values_len: usize,
+        new_present: *const u8,
+        new_present_len: usize,
+        values: *mut i64,
+        values_len: usize,
+        present: *mut u8,
+        present_len: usize,
+        out: *mut u8,
+        out_len: usize,
+    ) -> Spliced;
+    pub fn grundavok_splice_boolean(
+        block: *const u8,
+        block_len: usize,
+        position: usize,
+        start: usize,
+        end: usize,
+        new_values: *const u8,
+        new_values_len: usize,
+        values: *mut u8,
+        values_len: usize,
+        out: *mut u8,
+        out_len: usize,
+    ) -> Spliced;
+}

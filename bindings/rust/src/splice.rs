@@ -1,0 +1,121 @@
+//! Edits: a range of one column's readings replaced, and the whole new block. An end past the list counts as its length.
+//!
+//! Refusals, in this order: those of `read_table`; 16; 17; 18 for an end below the start; the column's first fault; 18 for a start beyond
+//! the list; 5 for the result; 7 (delta alone).
+
+use crate::raw_column::{column, rows, Row};
+use crate::{boolean, delta, judged, lists, raw, rle, Refusal};
+
+/// The new block, its rows, and the column's new list.
+#[derive(Clone, Debug, PartialEq, Eq)]
+pub struct Spliced<T> {
+    pub block: Vec<u8>,
+    pub rows: Vec<Row>,
+    pub list: Vec<T>,
+}
+
+/// A number takes at most ten bytes, so a table with one length changed grows by less.
+const TABLE_GROWTH: usize = 10;
+
+/// How long the old list is, and the new one. A column that cannot be read counts as empty: the edit itself then says what is wrong.
+fn lengths(old: Result<usize, Refusal>, start: usize, end: usize, new: usize) -> (usize, usize) {
+    let old = old.unwrap_or(0);
+    let (start, end) = (start.min(old), end.min(old));
+    (old, start + new + old.saturating_sub(end.max(start)))
+}
+
+macro_rules! optional_splice {
+    ($name:ident, $element:ty, $column:ident, $call:ident) => {
+        pub fn $name(
+            block: &[u8],
+            position: usize,
+            start: usize,
+            end: usize,
+            new: &[Option<$element>],
+        ) -> Result<Spliced<Option<$element>>, Refusal> {
+            let (old, len) = lengths(column(block, position).and_then($column::count), start, end, new.len());
+            let (new_values, new_present) = lists::apart(new);
+            let (mut values, mut present) = (vec![0; old.max(len)], vec![0; old.max(len)]);
+            let edit = |out: &mut [u8], values: &mut [$element], present: &mut [u8]| unsafe {
+                raw::$call(
+                    block.as_ptr(),
+                    block.len(),
+                    position,
+                    start,
+                    end,
+                    new_values.as_ptr(),
+                    new_values.len(),
+                    new_present.as_ptr(),
+                    new_present.len(),
+                    values.as_mut_ptr(),
+                    values.len(),
+                    present.as_mut_ptr(),
+                    present.len(),
+                    out.as_mut_ptr(),
+                    out.len(),
+                )
+            };
+            // With no output every edit is refused; with 10 where nothing else is wrong, and the slots then hold the new list.
+            let refused = edit(&mut [], &mut values, &mut present);
+            if refused.number != 10 {
+                judged(refused.number, refused.place, ())?;
+            }
+            let size = $column::size(&values[..len], &present[..len])?;
+            let mut out = vec![0; block.len() + size + TABLE_GROWTH];
+            let r = edit(&mut out, &mut values, &mut present);
+            out.truncate(r.len);
+            let list = lists::together(&values[..len], &present[..len]);
+            judged(
+                r.number,
+                r.place,
+                Spliced {
+                    block: out,
+                    rows: rows(&r.table),
+                    list,
+                },
+            )
+        }
+    };
+}
+
+optional_splice!(splice_integer, u64, rle, grundavok_splice_integer);
+optional_splice!(splice_delta, i64, delta, grundavok_splice_delta);
+
+pub fn splice_boolean(block: &[u8], position: usize, start: usize, end: usize, new: &[bool]) -> Result<Spliced<bool>, Refusal> {
+    let (old, len) = lengths(column(block, position).and_then(boolean::count), start, end, new.len());
+    let new = lists::bytes(new);
+    let mut values = vec![0; old.max(len)];
+    let edit = |out: &mut [u8], values: &mut [u8]| unsafe {
+        raw::grundavok_splice_boolean(
+            block.as_ptr(),
+            block.len(),
+            position,
+            start,
+            end,
+            new.as_ptr(),
+            new.len(),
+            values.as_mut_ptr(),
+            values.len(),
+            out.as_mut_ptr(),
+            out.len(),
+        )
+    };
+    let refused = edit(&mut [], &mut values);
+    if refused.number != 10 {
+        judged(refused.number, refused.place, ())?;
+    }
+    let size = boolean::size(&values[..len])?;
+    let mut out = vec![0; block.len() + size + TABLE_GROWTH];
+    let r = edit(&mut out, &mut values);
+    out.truncate(r.len);
+    let list = lists::booleans(&values[..len]);
+    judged(
+        r.number,
+        r.place,
+        Spliced {
+            block: out,
+            rows: rows(&r.table),
+            list,
+        },
+    )
+}

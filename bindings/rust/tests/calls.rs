@@ -1,0 +1,111 @@
+//! Calls over the linked archive, with document 01's examples. Where the archive cannot be linked, `cargo test` lists them as not run, and
+//! the build's warning says why.
+
+#[cfg(not(grundavok_linked))]
+#[test]
+#[ignore = "not run: libcapi.a is not linked here, the build's warning says why"]
+fn calls() {
+    panic!("libcapi.a is not linked");
+}
+
+#[cfg(grundavok_linked)]
+mod calls {
+    use grundavok::column_specification::{ColumnSpec, ColumnType};
+    use grundavok::raw_column::{Frame, Row};
+    use grundavok::{boolean, delta, leb128, raw_column, rle, splice, Refusal};
+
+    const DEPTHS: [u8; 8] = [0x01, 0x13, 0x05, 0x7f, 0xd0, 0x00, 0x02, 0x00];
+    const TWO: [u8; 9] = [0x02, 0x12, 0x02, 0x13, 0x02, 0x02, 0x05, 0x7f, 0x05];
+
+    fn refused<T>(number: u8, place: usize) -> Result<T, Refusal> {
+        Err(Refusal { number, place })
+    }
+
+    #[test]
+    fn numbers() {
+        assert_eq!(leb128::leb128_u64(&[0x80, 0x01], 0), Ok((128, 2)));
+        assert_eq!(leb128::leb128_u64(&[0x80, 0x00], 0), refused(3, 0));
+        assert_eq!(leb128::leb128_u64(&[], 0), refused(1, 0));
+        assert_eq!(leb128::leb128_i64(&[0x07, 0x40], 1), Ok((-64, 2)));
+        assert_eq!(leb128::leb128_u32(&[0x80, 0x80, 0x80, 0x80, 0x10], 0), refused(2, 0));
+        assert_eq!(leb128::nonzero_leb128_u64(&[0x05, 0x00], 1), refused(4, 1));
+        assert_eq!((leb128::len_u64(128), leb128::len_i64(i64::MIN)), (2, 10));
+        let mut out = [0xee; 4];
+        assert_eq!(leb128::put_u64(128, &mut out, 1), Ok(3));
+        assert_eq!(leb128::put_i64(64, &mut out, 3), refused(10, 0));
+        assert_eq!(leb128::write_i64(-1, &mut out), Ok(1));
+        assert_eq!(leb128::write_u64(u64::MAX, &mut out), refused(10, 0));
+        assert_eq!(out, [0x7f, 0x80, 0x01, 0xee]);
+    }
+
+    #[test]
+    fn specifications() {
+        let spec = ColumnSpec::new(16, ColumnType::DeltaInteger, false).unwrap();
+        assert_eq!(
+            (spec.0, spec.id(), spec.col_type(), spec.deflate()),
+            (0x103, 16, ColumnType::DeltaInteger, false)
+        );
+        assert_eq!(ColumnSpec(0x112).normalize(), 0x12);
+        assert_eq!(ColumnSpec::new(1 << 28, ColumnType::Value, true), refused(19, 0));
+    }
+
+    #[test]
+    fn columns() {
+        assert_eq!(
+            rle::decode(&[0x00, 0x02, 0x03, 0x05]),
+            Ok(vec![None, None, Some(5), Some(5), Some(5)])
+        );
+        assert_eq!(rle::decode(&[0x7d, 0x01, 0x02]), refused(1, 3));
+        assert_eq!(rle::count(&[0x02]), refused(1, 1));
+        assert_eq!(rle::encode(&[Some(1), Some(2), Some(2)]), Ok(vec![0x7f, 0x01, 0x02, 0x02]));
+        assert_eq!(rle::encode(&[None, None]), Ok(vec![]));
+        assert_eq!(
+            delta::decode(&[0x7f, 0x05, 0x00, 0x01, 0x7f, 0x01]),
+            Ok(vec![Some(5), None, Some(6)])
+        );
+        assert_eq!(delta::encode(&[Some(80); 3]), Ok(vec![0x7f, 0xd0, 0x00, 0x02, 0x00]));
+        assert_eq!(delta::encoded_len(&[Some(i64::MAX), Some(-2)]), refused(7, 1));
+        assert_eq!(boolean::decode(&[0x00, 0x01, 0x02]), Ok(vec![true, false, false]));
+        assert_eq!(boolean::encode(&[false, false]), Ok(vec![0x02]));
+        assert_eq!(boolean::maybe_encode(&[false, false]), Ok(vec![]));
+        assert_eq!(boolean::encode(&[]), Ok(vec![]));
+    }
+
+    #[test]
+    fn tables() {
+        let row = |spec, start, len| Row {
+            spec: ColumnSpec(spec),
+            start,
+            len,
+        };
+        assert_eq!(raw_column::read_table(&TWO), Ok((vec![row(0x12, 0, 2), row(0x13, 2, 2)], 5)));
+        assert_eq!(raw_column::read_table(&[0x41]), refused(11, 0));
+        assert_eq!(raw_column::column(&TWO, 1), Ok(&TWO[7..9]));
+        assert_eq!(raw_column::column(&TWO, 2), refused(16, 0));
+        assert_eq!(raw_column::bytes(&TWO, ColumnSpec(0x12)), Ok(&TWO[5..7]));
+        assert_eq!(raw_column::bytes(&TWO, ColumnSpec(0x14)), Ok(&TWO[..0]));
+        let mut out = [0xee; 10];
+        assert_eq!(raw_column::put_frame(&TWO, 0, 3, &mut out), Ok(Frame { at: 5, len: 10 }));
+        assert_eq!(out, [0x02, 0x12, 0x03, 0x13, 0x02, 0xee, 0xee, 0xee, 0x7f, 0x05]);
+    }
+
+    #[test]
+    fn edits() {
+        let edit = splice::splice_delta(&DEPTHS, 0, 1, 2, &[Some(81)]).unwrap();
+        assert_eq!(edit.block, [0x01, 0x13, 0x05, 0x7d, 0xd0, 0x00, 0x01, 0x7f]);
+        assert_eq!(edit.list, [Some(80), Some(81), Some(80)]);
+        assert_eq!(splice::splice_delta(&DEPTHS, 0, 1, 2, &[Some(i64::MAX), Some(-2)]), refused(7, 2));
+        assert_eq!(splice::splice_integer(&DEPTHS, 0, 0, 1, &[]), refused(17, 0));
+        assert_eq!(splice::splice_integer(&TWO, 0, 3, 4, &[]), refused(18, 0));
+        let emptied = splice::splice_integer(&TWO, 0, 0, usize::MAX, &[]).unwrap();
+        assert_eq!(
+            (emptied.block.as_slice(), emptied.list.len()),
+            (&[0x02, 0x12, 0x00, 0x13, 0x02, 0x7f, 0x05][..], 0)
+        );
+        let flags = splice::splice_boolean(&[0x01, 0x14, 0x03, 0x00, 0x01, 0x02], 0, 0, 1, &[false]).unwrap();
+        assert_eq!(
+            (flags.block.as_slice(), flags.list.as_slice()),
+            (&[0x01, 0x14, 0x01, 0x03][..], &[false; 3][..])
+        );
+    }
+}

@@ -1,0 +1,18 @@
+-- `capi::tables::grundavok_read_table` meets its contract. Assumes nothing.
+use mathlib.Core.Path.{ap, _∙_}
+use Rattle.capi.specs.Answers.{openedAs}
+use borrow.Author.Needs.{needs}
+use Rattle.capi.proofs.tables.grundavok_read_table.Statement.{statement}
+use Rattle.capi.proofs.tables.grundavok_read_table.Tie as tie
+
+read-table-requires : tie.Need-read-table-requires
+read-table-requires c κs = search needs
+
+opened-requires : tie.Need-opened-requires
+opened-requires c κs = search needs
+
+returns : tie.Need-returns
+returns c = c .opened .ensures ∙ ap openedAs (c .before .read-table .ensures)
+
+pub grundavok-read-table-spec : {M : Type 1} → statement M
+grundavok-read-table-spec = tie.close (tie.spec read-table-requires opened-requires returns)

@@ -1,0 +1,59 @@
+-- What each answer of the library's definitions is at the boundary: number 0 where the call is accepted, and every other number 0 where it
+-- is refused (01, "Refusal numbers").
+use Prim.Native.Nat.{ℕ}
+use lib.IntN.{ℤ, pos}
+use Rattle.leb128.specs.Got.{Got, got, bad}
+use Rattle.leb128.specs.Answer.{Answer, done, refused}
+use Rattle.column_specification.specs.declared.Packed.{Packed}
+use Rattle.column_specification.specs.declared.Packed.the-variants.{Spec, Refused}
+use Rattle.raw_column.specs.declared.Table.{Table as RawTable}
+use Rattle.raw_column.specs.declared.Opened.{Opened as RawOpened}
+use Rattle.raw_column.specs.declared.Part.{Part as RawPart}
+use Rattle.raw_column.specs.declared.Frame.{Frame as RawFrame}
+use Rattle.splice.specs.declared.Spliced.{Spliced as Edit}
+use Rattle.capi.specs.declared.NumberU64.{NumberU64}
+use Rattle.capi.specs.declared.NumberI64.{NumberI64}
+use Rattle.capi.specs.declared.NumberU32.{NumberU32}
+use Rattle.capi.specs.declared.Counted.{Counted}
+use Rattle.capi.specs.declared.Specification.{Specification}
+use Rattle.capi.specs.declared.Table.{Table}
+use Rattle.capi.specs.declared.Opened.{Opened}
+use Rattle.capi.specs.declared.Part.{Part}
+use Rattle.capi.specs.declared.Frame.{Frame}
+use Rattle.capi.specs.declared.Spliced.{Spliced}
+
+abbrev pub numberU64 : Got ℕ → NumberU64
+numberU64 (got v next) = record { number = 0; place = 0; value = v; next = next }
+numberU64 (bad r place) = record { number = r; place = place; value = 0; next = 0 }
+
+abbrev pub numberI64 : Got ℤ → NumberI64
+numberI64 (got x next) = record { number = 0; place = 0; value = x; next = next }
+numberI64 (bad r place) = record { number = r; place = place; value = pos 0; next = 0 }
+
+abbrev pub numberU32 : Got ℕ → NumberU32
+numberU32 (got v next) = record { number = 0; place = 0; value = v; next = next }
+numberU32 (bad r place) = record { number = r; place = place; value = 0; next = 0 }
+
+abbrev pub counted : Answer → Counted
+counted (done n) = record { number = 0; place = 0; count = n }
+counted (refused r place) = record { number = r; place = place; count = 0 }
+
+abbrev pub specification : Packed → Specification
+specification (Spec s) = record { number = 0; place = 0; spec = s .0 }
+specification (Refused r place) = record { number = r; place = place; spec = 0 }
+
+-- the library's structs, field by field
+abbrev pub tableAs : RawTable → Table
+tableAs t = record { specs = t .specs; starts = t .starts; lens = t .lens; rows = t .rows }
+
+abbrev pub openedAs : RawOpened → Opened
+openedAs o = record { number = o .number; place = o .place; start = o .start; table = tableAs (o .table) }
+
+abbrev pub partAs : RawPart → Part
+partAs p = record { number = p .number; place = p .place; start = p .start; len = p .len }
+
+abbrev pub frameAs : RawFrame → Frame
+frameAs f = record { number = f .number; place = f .place; at = f .at; len = f .len }
+
+abbrev pub splicedAs : Edit → Spliced
+splicedAs e = record { number = e .number; place = e .place; len = e .len; table = tableAs (e .table) }

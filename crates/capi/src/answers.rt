@@ -1,0 +1,194 @@
+// The library's answers in the boundary's form.
+ghost use mathlib.Core.Path.{_≡_};
+ghost use Rattle.leb128.specs.Answer.{done, refused};
+ghost use Rattle.leb128.specs.Answers.{u64Of, i64Of, u32Of, writtenOf};
+ghost use Rattle.encoding.specs.Answers.{answerOf};
+ghost use Rattle.capi.specs.Answers.{numberU64, numberI64, numberU32, counted, specification, tableAs, openedAs, partAs, frameAs, splicedAs};
+use crate::Counted;
+use crate::Frame;
+use crate::NumberI64;
+use crate::NumberU32;
+use crate::NumberU64;
+use crate::Opened;
+use crate::Part;
+use crate::Specification;
+use crate::Spliced;
+use crate::Table;
+use column_specification::Packed;
+use encoding::Answer;
+use leb128::ParsedI64;
+use leb128::ParsedU32;
+use leb128::ParsedU64;
+use leb128::Written;
+
+pub(crate) fn number_u64(p: ParsedU64) -> NumberU64
+    ensures { λ r. ⌜ r ≡ numberU64 (u64Of p) ⌝ }
+{
+    match p {
+        ParsedU64::Number(v, next) => NumberU64 {
+            number: 0,
+            place: 0,
+            value: v,
+            next: next,
+        },
+        ParsedU64::Refused(n, place) => NumberU64 {
+            number: n,
+            place: place,
+            value: 0,
+            next: 0,
+        },
+    }
+}
+
+pub(crate) fn number_i64(p: ParsedI64) -> NumberI64
+    ensures { λ r. ⌜ r ≡ numberI64 (i64Of p) ⌝ }
+{
+    match p {
+        ParsedI64::Number(x, next) => NumberI64 {
+            number: 0,
+            place: 0,
+            value: x,
+            next: next,
+        },
+        ParsedI64::Refused(n, place) => NumberI64 {
+            number: n,
+            place: place,
+            value: 0,
+            next: 0,
+        },
+    }
+}
+
+pub(crate) fn number_u32(p: ParsedU32) -> NumberU32
+    ensures { λ r. ⌜ r ≡ numberU32 (u32Of p) ⌝ }
+{
+    match p {
+        ParsedU32::Number(v, next) => NumberU32 {
+            number: 0,
+            place: 0,
+            value: v,
+            next: next,
+        },
+        ParsedU32::Refused(n, place) => NumberU32 {
+            number: n,
+            place: place,
+            value: 0,
+            next: 0,
+        },
+    }
+}
+
+fn accepted(n: u64) -> Counted
+    ensures { λ r. ⌜ r ≡ counted (done n) ⌝ }
+{
+    Counted {
+        number: 0,
+        place: 0,
+        count: n,
+    }
+}
+
+fn refused(n: u8, place: usize) -> Counted
+    ensures { λ r. ⌜ r ≡ counted (refused n place) ⌝ }
+{
+    Counted {
+        number: n,
+        place: place,
+        count: 0,
+    }
+}
+
+pub(crate) fn answer(a: Answer) -> Counted
+    ensures { λ r. ⌜ r ≡ counted (answerOf a) ⌝ }
+{
+    match a {
+        Answer::Done(n) => accepted(n),
+        Answer::Refused(n, place) => refused(n, place),
+    }
+}
+
+pub(crate) fn written(w: Written) -> Counted
+    ensures { λ r. ⌜ r ≡ counted (writtenOf w) ⌝ }
+{
+    match w {
+        Written::Next(next) => accepted(next as u64),
+        Written::Refused(n, place) => refused(n, place),
+    }
+}
+
+pub(crate) fn packed(p: Packed) -> Specification
+    ensures { λ r. ⌜ r ≡ specification p ⌝ }
+{
+    match p {
+        Packed::Spec(s) => Specification {
+            number: 0,
+            place: 0,
+            spec: s.0,
+        },
+        Packed::Refused(n, place) => Specification {
+            number: n,
+            place: place,
+            spec: 0,
+        },
+    }
+}
+
+fn table(t: raw_column::Table) -> Table
+    ensures { λ r. ⌜ r ≡ tableAs t ⌝ }
+{
+    let specs = t.specs;
+    let starts = t.starts;
+    let lens = t.lens;
+    Table {
+        specs: specs,
+        starts: starts,
+        lens: lens,
+        rows: t.rows,
+    }
+}
+
+pub(crate) fn opened(o: raw_column::Opened) -> Opened
+    ensures { λ r. ⌜ r ≡ openedAs o ⌝ }
+{
+    let t = o.table;
+    Opened {
+        number: o.number,
+        place: o.place,
+        start: o.start,
+        table: table(t),
+    }
+}
+
+pub(crate) fn part(p: raw_column::Part) -> Part
+    ensures { λ r. ⌜ r ≡ partAs p ⌝ }
+{
+    Part {
+        number: p.number,
+        place: p.place,
+        start: p.start,
+        len: p.len,
+    }
+}
+
+pub(crate) fn frame(f: raw_column::Frame) -> Frame
+    ensures { λ r. ⌜ r ≡ frameAs f ⌝ }
+{
+    Frame {
+        number: f.number,
+        place: f.place,
+        at: f.at,
+        len: f.len,
+    }
+}
+
+pub(crate) fn spliced(e: splice::Spliced) -> Spliced
+    ensures { λ r. ⌜ r ≡ splicedAs e ⌝ }
+{
+    let t = e.table;
+    Spliced {
+        number: e.number,
+        place: e.place,
+        len: e.len,
+        table: table(t),
+    }
+}

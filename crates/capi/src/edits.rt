@@ -1,0 +1,129 @@
+// Edits of a column in its block, and of a list in slots.
+ghost use mathlib.Core.Path.{_≡_};
+ghost use lib.IntN.{pos};
+ghost use lib.ListN.{length};
+ghost use Rattle.slots.specs.Splice.{spliceAnswer, splicedSlots};
+ghost use Rattle.splice.specs.Contract.{OptionalSpliced, BooleanSpliced};
+ghost use Rattle.splice.specs.Kinds.{integer, delta, boolean};
+ghost use Rattle.capi.specs.Answers.{counted};
+ghost use Rattle.capi.specs.Told.{ToldEdit};
+use crate::Counted;
+use crate::Spliced;
+use crate::answers;
+
+#[no_mangle]
+pub extern "C" fn grundavok_splice_integer(
+    block: &[u8],
+    position: usize,
+    start: usize,
+    end: usize,
+    new_values: &[u64],
+    new_present: &[u8],
+    values: &mut [u64],
+    present: &mut [u8],
+    out: &mut [u8],
+) -> Spliced
+    ensures { λ r. ⌜ ToldEdit (OptionalSpliced integer 0 (now (block .entry)) position start end (now («new_values» .entry)) (now («new_present» .entry))
+        (now (values .entry)) (now (values .exit)) (now (present .entry)) (now (present .exit)) (now (out .entry)) (now (out .exit))) r ⌝ }
+{
+    answers::spliced(splice::splice_integer(
+        block,
+        position,
+        start,
+        end,
+        new_values,
+        new_present,
+        values,
+        present,
+        out,
+    ))
+}
+
+#[no_mangle]
+pub extern "C" fn grundavok_splice_delta(
+    block: &[u8],
+    position: usize,
+    start: usize,
+    end: usize,
+    new_values: &[i64],
+    new_present: &[u8],
+    values: &mut [i64],
+    present: &mut [u8],
+    out: &mut [u8],
+) -> Spliced
+    ensures { λ r. ⌜ ToldEdit (OptionalSpliced delta (pos 0) (now (block .entry)) position start end (now («new_values» .entry)) (now («new_present» .entry))
+        (now (values .entry)) (now (values .exit)) (now (present .entry)) (now (present .exit)) (now (out .entry)) (now (out .exit))) r ⌝ }
+{
+    answers::spliced(splice::splice_delta(
+        block,
+        position,
+        start,
+        end,
+        new_values,
+        new_present,
+        values,
+        present,
+        out,
+    ))
+}
+
+#[no_mangle]
+pub extern "C" fn grundavok_splice_boolean(
+    block: &[u8],
+    position: usize,
+    start: usize,
+    end: usize,
+    new_values: &[u8],
+    values: &mut [u8],
+    out: &mut [u8],
+) -> Spliced
+    ensures { λ r. ⌜ ToldEdit (BooleanSpliced boolean (now (block .entry)) position start end (now («new_values» .entry))
+        (now (values .entry)) (now (values .exit)) (now (out .entry)) (now (out .exit))) r ⌝ }
+{
+    answers::spliced(splice::splice_boolean(block, position, start, end, new_values, values, out))
+}
+
+#[no_mangle]
+pub extern "C" fn grundavok_slots_splice_u64(
+    held: &mut [u64],
+    old: usize,
+    start: usize,
+    end: usize,
+    new_values: &[u64],
+) -> Counted
+    ensures { λ r. ⌜ r ≡ counted (spliceAnswer (length (now (held .entry))) old start end (length (now («new_values» .entry)))) ⌝ }
+    ensures { λ _. ⌜ now (held .exit) ≡ splicedSlots 0 (spliceAnswer (length (now (held .entry))) old start end (length (now («new_values» .entry))))
+        (now (held .entry)) old start end (now («new_values» .entry)) ⌝ }
+{
+    answers::answer(slots::splice_u64(held, old, start, end, new_values))
+}
+
+#[no_mangle]
+pub extern "C" fn grundavok_slots_splice_i64(
+    held: &mut [i64],
+    old: usize,
+    start: usize,
+    end: usize,
+    new_values: &[i64],
+) -> Counted
+    ensures { λ r. ⌜ r ≡ counted (spliceAnswer (length (now (held .entry))) old start end (length (now («new_values» .entry)))) ⌝ }
+    ensures { λ _. ⌜ now (held .exit) ≡ splicedSlots (pos 0) (spliceAnswer (length (now (held .entry))) old start end (length (now («new_values» .entry))))
+        (now (held .entry)) old start end (now («new_values» .entry)) ⌝ }
+{
+    answers::answer(slots::splice_i64(held, old, start, end, new_values))
+}
+
+#[no_mangle]
+pub extern "C" fn grundavok_slots_splice_u8(
+    held: &mut [u8],
+    old: usize,
+    start: usize,
+    end: usize,
+    new_values: &[u8],
+) -> Counted
+    ensures { λ r. ⌜ r ≡ counted (spliceAnswer (length (now (held .entry))) old start end (length (now («new_values» .entry)))) ⌝ }
+    ensures { λ _. ⌜ now (held .exit) ≡ splicedSlots 0 (spliceAnswer (length (now (held .entry))) old start end (length (now («new_values» .entry))))
+        (now (held .entry)) old start end (now («new_values» .entry)) ⌝ }
+{
+    answers::answer(slots::splice_u8(held, old, start, end, new_values))
+}

@@ -1,0 +1,94 @@
+// The boundary for C and Rust: each public function of the library under a name of C's, its answer a struct by value, a slice a pointer
+// and a length. Thin: every function calls one of the library and passes its answer on. include/grundavok.h says the same in C.
+mod answers;
+mod columns;
+mod edits;
+mod numbers;
+mod specifications;
+mod tables;
+
+// A number that was read and the position behind it; or a refusal. In every answer `number` is 0 where the call was accepted and else the
+// refusal's, `place` is the refusal's, and the other values of a refusal are 0.
+#[repr(C)]
+pub struct NumberU64 {
+    pub number: u8,
+    pub place: usize,
+    pub value: u64,
+    pub next: usize,
+}
+
+#[repr(C)]
+pub struct NumberI64 {
+    pub number: u8,
+    pub place: usize,
+    pub value: i64,
+    pub next: usize,
+}
+
+#[repr(C)]
+pub struct NumberU32 {
+    pub number: u8,
+    pub place: usize,
+    pub value: u32,
+    pub next: usize,
+}
+
+// How many readings a column has, or how many bytes were written or would be.
+#[repr(C)]
+pub struct Counted {
+    pub number: u8,
+    pub place: usize,
+    pub count: u64,
+}
+
+#[repr(C)]
+pub struct Specification {
+    pub number: u8,
+    pub place: usize,
+    pub spec: u32,
+}
+
+// A table: each row's specification, where its column begins in the data, and its length; unused places are 0.
+#[repr(C)]
+pub struct Table {
+    pub specs: [u32; 64],
+    pub starts: [u64; 64],
+    pub lens: [u64; 64],
+    pub rows: usize,
+}
+
+// A table and where the data behind it begin.
+#[repr(C)]
+pub struct Opened {
+    pub number: u8,
+    pub place: usize,
+    pub start: usize,
+    pub table: Table,
+}
+
+// Where a column lies in its block.
+#[repr(C)]
+pub struct Part {
+    pub number: u8,
+    pub place: usize,
+    pub start: usize,
+    pub len: usize,
+}
+
+// Where the new column of a new block goes, and how long the block is.
+#[repr(C)]
+pub struct Frame {
+    pub number: u8,
+    pub place: usize,
+    pub at: usize,
+    pub len: usize,
+}
+
+// The new block's length and table.
+#[repr(C)]
+pub struct Spliced {
+    pub number: u8,
+    pub place: usize,
+    pub len: usize,
+    pub table: Table,
+}

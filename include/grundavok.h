@@ -1,0 +1,251 @@
+/* The column encodings of Automerge documents, proved: numbers, specifications, columns, tables and edits.
+ *
+ * Link libcapi.a, which `rt staticlib capi` writes (x86-64 Linux). The functions call nothing, allocate nothing, keep nothing and
+ * share nothing: any two may run at once on different buffers.
+ *
+ * SLICES are a pointer and a length, in elements and not in bytes. The caller sees to it, for no function can test it, that
+ *  - a pointer is not null, not even with length 0 (any address will do there), and is aligned for its element;
+ *  - the elements are readable and hold values, those behind a pointer without `const` writable too;
+ *  - what is lent without `const` overlaps no other slice of the same call, and nobody else touches it until the call is over.
+ * Nothing is kept: when a call returns, every buffer is the caller's alone again.
+ *
+ * ANSWERS are structs by value. `number` is 0 where the call was accepted, and else the refusal's; `place` is the refusal's place and
+ * 0 where there is none; every other number of a refusal is 0. Any bytes, lists and ranges may go to any function.
+ *
+ *   1  the bytes end before a number that is due is complete        its first byte
+ *   2  number too large for its type                                its first byte
+ *   3  overlong number                                              its first byte
+ *   4  zero where nonzero was asked                                 its first byte
+ *   5  a list passes 4,294,967,295 values                           the count that does it; 0 for a lent or resulting list
+ *   6  a delta sum leaves int64_t                                   the delta
+ *   7  a difference to be written leaves int64_t                    index in the list
+ *   8  slices of one list of unequal length, or a presence          0 for lengths, judged first,
+ *      or boolean byte above 1 in a given list                      else the first bad index
+ *   9  too few slots                                                0
+ *  10  output too short                                             0
+ *  11  more than 64 columns                                         0
+ *  12  table not in normal order                                    0
+ *  13  a specification has bit 3 set                                0
+ *  14  column lengths add up to more than the data                  0
+ *  15  they add up to less                                          0
+ *  16  column position not in the table                             0
+ *  17  column type not served by the call                           0
+ *  18  range end below its start, or start beyond the list          0
+ *  19  column id of 2^28 or more                                    0
+ *
+ * Places inside a column count from the column's first byte. A number due where the bytes have already ended has the length as its place.
+ *
+ * WHAT IS LEFT BEHIND: on success an output holds the result at its front and is otherwise unchanged; decoded readings fill the first
+ * slots, the rest unchanged. A refusal changes neither, but for an edit that is refused with 7 or 10 (see there).
+ *
+ * LISTS: an optional list is a slice of values and an equally long slice of presence bytes, 1 or 0. The value of an absent reading is
+ * not looked at in a given list, and is 0 in filled slots. A boolean list is one slice of bytes, 1 or 0.
+ */
+#ifndef GRUNDAVOK_H
+#define GRUNDAVOK_H
+
+#include <stdbool.h>
+#include <stddef.h>
+#include <stdint.h>
+
+#ifdef __cplusplus
+extern "C" {
+#endif
+
+/* ---- Answers. Beside each field: where it lies, in bytes; size_t has 8. ---- */
+
+/* A number that was read, and the position behind it. 32 bytes each. */
+typedef struct {
+    uint8_t number; /* 0 */
+    size_t place;   /* 8 */
+    uint64_t value; /* 16 */
+    size_t next;    /* 24 */
+} grundavok_number_u64;
+
+typedef struct {
+    uint8_t number; /* 0 */
+    size_t place;   /* 8 */
+    int64_t value;  /* 16 */
+    size_t next;    /* 24 */
+} grundavok_number_i64;
+
+typedef struct {
+    uint8_t number; /* 0 */
+    size_t place;   /* 8 */
+    uint32_t value; /* 16 */
+    size_t next;    /* 24 */
+} grundavok_number_u32;
+
+/* How many, as each function says. 24 bytes. */
+typedef struct {
+    uint8_t number; /* 0 */
+    size_t place;   /* 8 */
+    uint64_t count; /* 16 */
+} grundavok_counted;
+
+/* A specification. 24 bytes. */
+typedef struct {
+    uint8_t number; /* 0 */
+    size_t place;   /* 8 */
+    uint32_t spec;  /* 16 */
+} grundavok_specification;
+
+/* A table: each row's specification, where its column begins in the data, and its length; unused places are 0. 1288 bytes. */
+typedef struct {
+    uint32_t specs[64];  /* 0 */
+    uint64_t starts[64]; /* 256 */
+    uint64_t lens[64];   /* 768 */
+    size_t rows;         /* 1280 */
+} grundavok_table;
+
+/* A table and where the data behind it begin; a table of no rows where it is refused. 1312 bytes. */
+typedef struct {
+    uint8_t number;        /* 0 */
+    size_t place;          /* 8 */
+    size_t start;          /* 16 */
+    grundavok_table table; /* 24 */
+} grundavok_opened;
+
+/* Where a column lies in its block: len bytes from start on. 32 bytes. */
+typedef struct {
+    uint8_t number; /* 0 */
+    size_t place;   /* 8 */
+    size_t start;   /* 16 */
+    size_t len;     /* 24 */
+} grundavok_part;
+
+/* Where the new column of a new block goes, and how long the block is. 32 bytes. */
+typedef struct {
+    uint8_t number; /* 0 */
+    size_t place;   /* 8 */
+    size_t at;      /* 16 */
+    size_t len;     /* 24 */
+} grundavok_frame;
+
+/* The new block's length and table; a table of no rows where the edit is refused. 1312 bytes. */
+typedef struct {
+    uint8_t number;        /* 0 */
+    size_t place;          /* 8 */
+    size_t len;            /* 16 */
+    grundavok_table table; /* 24 */
+} grundavok_spliced;
+
+/* ---- Numbers ---- */
+
+/* The number at position `at` of s. Refusals: 1, 2, 3. A position at or past the end is 1, its place the length. */
+grundavok_number_u64 grundavok_leb128_u64(const uint8_t *s, size_t s_len, size_t at);
+grundavok_number_i64 grundavok_leb128_i64(const uint8_t *s, size_t s_len, size_t at);
+
+/* Read as a uint64_t first, then judged for 2. Refusals: 1, 2, 3. */
+grundavok_number_u32 grundavok_leb128_u32(const uint8_t *s, size_t s_len, size_t at);
+
+/* Refusals: 1, 2, 3, 4. */
+grundavok_number_u64 grundavok_nonzero_leb128_u64(const uint8_t *s, size_t s_len, size_t at);
+
+/* How many bytes the number takes, 1 to 10. No refusal. */
+size_t grundavok_len_u64(uint64_t v);
+size_t grundavok_len_i64(int64_t x);
+
+/* Writes the number at position `at` of out; count is the position behind it. Refusal: 10, out unchanged. */
+grundavok_counted grundavok_put_u64(uint64_t v, uint8_t *out, size_t out_len, size_t at);
+grundavok_counted grundavok_put_i64(int64_t x, uint8_t *out, size_t out_len, size_t at);
+
+/* Writes the number at the front of out; count is how many bytes it took. Refusal: 10, out unchanged. */
+grundavok_counted grundavok_write_u64(uint64_t v, uint8_t *out, size_t out_len);
+grundavok_counted grundavok_write_i64(int64_t x, uint8_t *out, size_t out_len);
+
+/* ---- Specifications: id times 16, plus 8 for the compressed bit, plus the type ---- */
+
+/* Types: 0 Group, 1 Actor, 2 Integer, 3 DeltaInteger, 4 Boolean, 5 String, 6 ValueMetadata, 7 Value. Only the low three bits of
+ * col_type count. Refusal: 19. */
+grundavok_specification grundavok_spec_new(uint32_t id, uint8_t col_type, bool deflate);
+
+/* The id, the type's number, the compressed bit, and the sorting key (the specification with mask 0xF7). No refusal. */
+uint32_t grundavok_spec_id(uint32_t spec);
+uint8_t grundavok_spec_col_type(uint32_t spec);
+bool grundavok_spec_deflate(uint32_t spec);
+uint32_t grundavok_spec_normalize(uint32_t spec);
+
+/* ---- Columns: rle holds optional uint64_t (Actor, Integer), delta optional int64_t, boolean bytes of 1 or 0 ---- */
+
+/* How many readings the column s has. Refusals: the column's first fault, 1, 2, 3 or 5; of delta 6 too. */
+grundavok_counted grundavok_rle_count(const uint8_t *s, size_t s_len);
+grundavok_counted grundavok_delta_count(const uint8_t *s, size_t s_len);
+grundavok_counted grundavok_boolean_count(const uint8_t *s, size_t s_len);
+
+/* The column's readings into the first slots; count is how many. Refusals, in this order: 8 for the two lengths, the column's first
+ * fault (1, 2, 3, 5; of delta 6 too), 9. A refusal leaves every slot as it was. */
+grundavok_counted grundavok_rle_decode(const uint8_t *s, size_t s_len, uint64_t *values, size_t values_len, uint8_t *present,
+                                       size_t present_len);
+grundavok_counted grundavok_delta_decode(const uint8_t *s, size_t s_len, int64_t *values, size_t values_len, uint8_t *present,
+                                         size_t present_len);
+grundavok_counted grundavok_boolean_decode(const uint8_t *s, size_t s_len, uint8_t *values, size_t values_len);
+
+/* How many bytes the list takes as a column. Refusals, in this order: 8, 5; of delta 7 too. */
+grundavok_counted grundavok_rle_encoded_len(const uint64_t *values, size_t values_len, const uint8_t *present, size_t present_len);
+grundavok_counted grundavok_delta_encoded_len(const int64_t *values, size_t values_len, const uint8_t *present, size_t present_len);
+grundavok_counted grundavok_boolean_encoded_len(const uint8_t *values, size_t values_len);
+
+/* The list as a column at the front of out; count is how many bytes. Refusals, in this order: 8, 5, 7 (delta alone), 10; out is then
+ * unchanged. An optional list with no value present writes nothing. */
+grundavok_counted grundavok_rle_encode(const uint64_t *values, size_t values_len, const uint8_t *present, size_t present_len, uint8_t *out,
+                                       size_t out_len);
+grundavok_counted grundavok_delta_encode(const int64_t *values, size_t values_len, const uint8_t *present, size_t present_len,
+                                         uint8_t *out, size_t out_len);
+grundavok_counted grundavok_boolean_encode(const uint8_t *values, size_t values_len, uint8_t *out, size_t out_len);
+
+/* The all-false form: no bytes where no value is true, otherwise the same bytes and refusals. */
+grundavok_counted grundavok_boolean_maybe_encoded_len(const uint8_t *values, size_t values_len);
+grundavok_counted grundavok_boolean_maybe_encode(const uint8_t *values, size_t values_len, uint8_t *out, size_t out_len);
+
+/* ---- Tables: a block is a table followed directly by its column data and nothing more ---- */
+
+/* Refusals ("table faults"): 1, 2, 3 and 11 left to right, 11 as soon as the count is read; then 12, 13, 14, 15. */
+grundavok_opened grundavok_read_table(const uint8_t *block, size_t block_len);
+
+/* Where the column at a position lies: the bytes block + start, len. Refusals: table faults, 16. */
+grundavok_part grundavok_locate(const uint8_t *block, size_t block_len, size_t position);
+
+/* Where the first column of exactly this specification lies; all 0 where there is none, which is no refusal. Refusals: table faults. */
+grundavok_part grundavok_locate_spec(const uint8_t *block, size_t block_len, uint32_t spec);
+
+/* A new block in which the column at a position is to have `size` bytes, but for that column: the new table, the earlier columns, `size`
+ * bytes left as they were from `at` on, the later columns. Refusals: table faults, 16, 10; out is then unchanged. */
+grundavok_frame grundavok_put_frame(const uint8_t *block, size_t block_len, size_t position, size_t size, uint8_t *out, size_t out_len);
+
+/* ---- Edits ---- */
+
+/* The readings from start up to end of the column at a position replaced by the new ones; an end past the list counts as its length. The
+ * whole new block is written to the front of out. Served: integer Actor and Integer columns, delta DeltaInteger, boolean Boolean.
+ * Refusals, in this order: table faults; 16; 17; 18 for end below start; 8 (the lengths of new and flags, of values and present; a byte
+ * above 1); the column's first fault (1, 2, 3, 5; of delta 6 too); 18 for start beyond the list; 5 for the result; 9 where slots are
+ * fewer than the longer of old and new list; 7 (delta alone); 10.
+ * On success, and on 7 or 10, the slots hold the new list, then absent zeros (booleans: 0) up to the old list's length where that was
+ * longer, the rest unchanged. Any other refusal changes no slot. No refusal changes out. */
+grundavok_spliced grundavok_splice_integer(const uint8_t *block, size_t block_len, size_t position, size_t start, size_t end,
+                                           const uint64_t *new_values, size_t new_values_len, const uint8_t *new_present,
+                                           size_t new_present_len, uint64_t *values, size_t values_len, uint8_t *present,
+                                           size_t present_len, uint8_t *out, size_t out_len);
+grundavok_spliced grundavok_splice_delta(const uint8_t *block, size_t block_len, size_t position, size_t start, size_t end,
+                                         const int64_t *new_values, size_t new_values_len, const uint8_t *new_present,
+                                         size_t new_present_len, int64_t *values, size_t values_len, uint8_t *present,
+                                         size_t present_len, uint8_t *out, size_t out_len);
+grundavok_spliced grundavok_splice_boolean(const uint8_t *block, size_t block_len, size_t position, size_t start, size_t end,
+                                           const uint8_t *new_values, size_t new_values_len, uint8_t *values, size_t values_len,
+                                           uint8_t *out, size_t out_len);
+
+/* The first `old` slots hold a list; its elements from start up to end are replaced in place. count is the new list's length; the slots
+ * behind it are 0 up to `old`, the rest unchanged. Refusals: 18 for end below start, or end beyond `old`; then 9 where slots are fewer
+ * than the longer of old and new list. A refusal changes no slot. */
+grundavok_counted grundavok_slots_splice_u64(uint64_t *held, size_t held_len, size_t old, size_t start, size_t end,
+                                             const uint64_t *new_values, size_t new_values_len);
+grundavok_counted grundavok_slots_splice_i64(int64_t *held, size_t held_len, size_t old, size_t start, size_t end,
+                                             const int64_t *new_values, size_t new_values_len);
+grundavok_counted grundavok_slots_splice_u8(uint8_t *held, size_t held_len, size_t old, size_t start, size_t end,
+                                            const uint8_t *new_values, size_t new_values_len);
+
+#ifdef __cplusplus
+}
+#endif
+
+#endif

@@ -1,0 +1,90 @@
+#include "compare.h"
+
+int printf(const char *format, ...);
+int memcmp(const void *a, const void *b, size_t size);
+
+int calls, differences;
+
+static void told(int line, const char *call, bool same) {
+    if (!same) {
+        differences++;
+        printf("line %d: not as wanted: %s\n", line, call);
+    }
+}
+
+void left_is(int line, const char *what, const void *is, const void *wanted, size_t size) {
+    told(line, what, memcmp(is, wanted, size) == 0);
+}
+
+void number_is(int line, const char *call, uint64_t is, uint64_t wanted) {
+    calls++;
+    told(line, call, is == wanted);
+}
+
+void u64_is(int line, const char *call, grundavok_number_u64 r, uint8_t number, size_t place, uint64_t value, size_t next) {
+    calls++;
+    told(line, call, r.number == number && r.place == place && r.value == value && r.next == next);
+}
+
+void i64_is(int line, const char *call, grundavok_number_i64 r, uint8_t number, size_t place, int64_t value, size_t next) {
+    calls++;
+    told(line, call, r.number == number && r.place == place && r.value == value && r.next == next);
+}
+
+void u32_is(int line, const char *call, grundavok_number_u32 r, uint8_t number, size_t place, uint32_t value, size_t next) {
+    calls++;
+    told(line, call, r.number == number && r.place == place && r.value == value && r.next == next);
+}
+
+void counted_is(int line, const char *call, grundavok_counted r, uint8_t number, size_t place, uint64_t count) {
+    calls++;
+    told(line, call, r.number == number && r.place == place && r.count == count);
+}
+
+void spec_is(int line, const char *call, grundavok_specification r, uint8_t number, size_t place, uint32_t spec) {
+    calls++;
+    told(line, call, r.number == number && r.place == place && r.spec == spec);
+}
+
+void part_is(int line, const char *call, grundavok_part r, uint8_t number, size_t place, size_t start, size_t len) {
+    calls++;
+    told(line, call, r.number == number && r.place == place && r.start == start && r.len == len);
+}
+
+void frame_is(int line, const char *call, grundavok_frame r, uint8_t number, size_t place, size_t at, size_t len) {
+    calls++;
+    told(line, call, r.number == number && r.place == place && r.at == at && r.len == len);
+}
+
+/* A table has no padding, so its bytes decide. */
+void opened_is(int line, const char *call, grundavok_opened r, uint8_t number, size_t place, size_t start, const grundavok_table *table) {
+    calls++;
+    told(line, call, r.number == number && r.place == place && r.start == start && memcmp(&r.table, table, sizeof r.table) == 0);
+}
+
+void spliced_is(int line, const char *call, grundavok_spliced r, uint8_t number, size_t place, size_t len, const grundavok_table *table) {
+    calls++;
+    told(line, call, r.number == number && r.place == place && r.len == len && memcmp(&r.table, table, sizeof r.table) == 0);
+}
+
+/* The layouts that the header states. */
+_Static_assert(sizeof(grundavok_number_u64) == 32 && offsetof(grundavok_number_u64, next) == 24, "number_u64");
+_Static_assert(sizeof(grundavok_number_i64) == 32 && offsetof(grundavok_number_i64, next) == 24, "number_i64");
+_Static_assert(sizeof(grundavok_number_u32) == 32 && offsetof(grundavok_number_u32, next) == 24, "number_u32");
+_Static_assert(sizeof(grundavok_counted) == 24 && offsetof(grundavok_counted, count) == 16, "counted");
+_Static_assert(sizeof(grundavok_specification) == 24 && offsetof(grundavok_specification, spec) == 16, "specification");
+_Static_assert(sizeof(grundavok_table) == 1288 && offsetof(grundavok_table, rows) == 1280, "table");
+_Static_assert(sizeof(grundavok_opened) == 1312 && offsetof(grundavok_opened, table) == 24, "opened");
+_Static_assert(sizeof(grundavok_part) == 32 && offsetof(grundavok_part, len) == 24, "part");
+_Static_assert(sizeof(grundavok_frame) == 32 && offsetof(grundavok_frame, len) == 24, "frame");
+_Static_assert(sizeof(grundavok_spliced) == 1312 && offsetof(grundavok_spliced, table) == 24, "spliced");
+
+int main(void) {
+    numbers();
+    specifications();
+    columns();
+    tables();
+    edits();
+    printf("capi: %d calls compared, %d differences\n", calls, differences);
+    return differences != 0;
+}

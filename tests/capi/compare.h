@@ -1,0 +1,49 @@
+/* An answer of the boundary compared with the one that document 01 asks for, and what a call left in a buffer with what it is to leave.
+ * Each answer counts as one call. */
+#ifndef COMPARE_H
+#define COMPARE_H
+
+#include "grundavok.h"
+
+/* What the buffers of a test hold before a call. */
+#define OLD 0xEE
+
+extern int calls, differences;
+
+void number_is(int line, const char *call, uint64_t is, uint64_t wanted);
+void u64_is(int line, const char *call, grundavok_number_u64 r, uint8_t number, size_t place, uint64_t value, size_t next);
+void i64_is(int line, const char *call, grundavok_number_i64 r, uint8_t number, size_t place, int64_t value, size_t next);
+void u32_is(int line, const char *call, grundavok_number_u32 r, uint8_t number, size_t place, uint32_t value, size_t next);
+void counted_is(int line, const char *call, grundavok_counted r, uint8_t number, size_t place, uint64_t count);
+void spec_is(int line, const char *call, grundavok_specification r, uint8_t number, size_t place, uint32_t spec);
+void part_is(int line, const char *call, grundavok_part r, uint8_t number, size_t place, size_t start, size_t len);
+void frame_is(int line, const char *call, grundavok_frame r, uint8_t number, size_t place, size_t at, size_t len);
+void opened_is(int line, const char *call, grundavok_opened r, uint8_t number, size_t place, size_t start, const grundavok_table *table);
+void spliced_is(int line, const char *call, grundavok_spliced r, uint8_t number, size_t place, size_t len, const grundavok_table *table);
+void left_is(int line, const char *what, const void *is, const void *wanted, size_t size);
+
+#define NUMBER(call, ...) number_is(__LINE__, #call, call, __VA_ARGS__)
+#define U64(call, ...) u64_is(__LINE__, #call, call, __VA_ARGS__)
+#define I64(call, ...) i64_is(__LINE__, #call, call, __VA_ARGS__)
+#define U32(call, ...) u32_is(__LINE__, #call, call, __VA_ARGS__)
+#define COUNTED(call, ...) counted_is(__LINE__, #call, call, __VA_ARGS__)
+#define SPEC(call, ...) spec_is(__LINE__, #call, call, __VA_ARGS__)
+#define PART(call, ...) part_is(__LINE__, #call, call, __VA_ARGS__)
+#define FRAME(call, ...) frame_is(__LINE__, #call, call, __VA_ARGS__)
+#define OPENED(call, ...) opened_is(__LINE__, #call, call, __VA_ARGS__)
+#define SPLICED(call, ...) spliced_is(__LINE__, #call, call, __VA_ARGS__)
+
+/* A whole buffer after a call. */
+#define LEFT(type, buffer, ...) left_is(__LINE__, #buffer, buffer, (const type[]){__VA_ARGS__}, sizeof(buffer) + 0 * sizeof(char[sizeof((const type[]){__VA_ARGS__}) == sizeof(buffer) ? 1 : -1]))
+
+/* A slice of bytes as the two arguments that it is. */
+#define SLICE(...) (const uint8_t[]){__VA_ARGS__}, sizeof((const uint8_t[]){__VA_ARGS__})
+#define ALL(buffer) buffer, sizeof(buffer) / sizeof(*buffer)
+
+void numbers(void);
+void specifications(void);
+void columns(void);
+void tables(void);
+void edits(void);
+
+#endif
