@@ -12,14 +12,17 @@ use crate::words;
 // Runs a command, and answers whether all went well.
 pub fn run(line: &[u8], desk: Desk) -> bool {
     let name = words::word(line, 0);
-    match words::index(b"show\0read\0draw\0check\0edit\0make\0help\0", name) {
+    match words::index(
+        b"show\0read\0draw\0check\0edit\0make\0help\0--help\0-h\0",
+        name,
+    ) {
         0 => show::run(line, desk),
         1 => read::run(line, desk),
         2 => draw::run(line, desk),
         3 => sound::run(line, desk),
         4 => edit::run(line, desk),
         5 => make::run(line, desk),
-        6 => help::run(desk),
+        6 | 7 | 8 => help::run(desk),
         _ => help::unknown(name, desk),
     }
 }

@@ -1,12 +1,6 @@
-// Room for blocks and readings, and how much of them the tool takes.
+// Room for blocks and scripts, of at most 262,144 bytes, and for readings, of which a column has at most 32,768.
 ghost use mathlib.Core.Path.{_≡_};
 ghost use lib.ListN.{length};
-
-// How many bytes a block or a script has at most.
-pub const BLOCK: usize = 262144;
-
-// How many readings a column has at most.
-pub const READINGS: usize = 32768;
 
 pub fn block() -> [u8; 262144]
     ensures { λ r. ⌜ 262144 ≡ length r ⌝ }
