@@ -33,8 +33,10 @@ void left_is(int line, const char *what, const void *is, const void *wanted, siz
 #define OPENED(call, ...) opened_is(__LINE__, #call, call, __VA_ARGS__)
 #define SPLICED(call, ...) spliced_is(__LINE__, #call, call, __VA_ARGS__)
 
-/* A whole buffer after a call. */
-#define LEFT(type, buffer, ...) left_is(__LINE__, #buffer, buffer, (const type[]){__VA_ARGS__}, sizeof(buffer) + 0 * sizeof(char[sizeof((const type[]){__VA_ARGS__}) == sizeof(buffer) ? 1 : -1]))
+/* A whole buffer after a call; a list of another size does not compile. */
+#define SAME_SIZE(a, b) (0 * sizeof(char[sizeof(a) == sizeof(b) ? 1 : -1]))
+#define LEFT(type, buffer, ...) \
+    left_is(__LINE__, #buffer, buffer, (const type[]){__VA_ARGS__}, sizeof(buffer) + SAME_SIZE(buffer, ((const type[]){__VA_ARGS__})))
 
 /* A slice of bytes as the two arguments that it is. */
 #define SLICE(...) (const uint8_t[]){__VA_ARGS__}, sizeof((const uint8_t[]){__VA_ARGS__})

@@ -1,0 +1,68 @@
+-- What `Told` passes on fixes the boundary's answer and what it leaves behind: no second struct and no second buffer fits.
+-- Assumes nothing.
+use Prim.Native.Nat.{ℕ}
+use mathlib.Core.Path.{_≡_, ap, _∙_}
+use mathlib.Core.List.{List, map}
+use mathlib.Core.Option.{Option}
+use lib.ListN.{length}
+use Rattle.leb128.specs.Answer.{Answer, within, left}
+use Rattle.encoding.specs.Given.{sized, Encoded}
+use Rattle.encoding.specs.Slots.{decoding, Decoded}
+use Rattle.encoding.specs.Walk.{Trace, outcome}
+use Rattle.boolean.specs.Decoded.{Decoded as DecodedFlags}
+use Rattle.splice.specs.Contract.{optionalEdit, OptionalSpliced, booleanEdit, BooleanSpliced}
+use Rattle.splice.specs.Edit.{answered}
+use Rattle.splice.specs.Kind.{Kind}
+use Rattle.splice.specs.declared.Spliced.{Spliced as Edit}
+use Rattle.capi.specs.Answers.{counted, splicedAs}
+use Rattle.capi.specs.Told.{Told, ToldEdit}
+use Rattle.capi.specs.declared.Counted.{Counted}
+use Rattle.capi.specs.declared.Spliced.{Spliced}
+
+-- a promise that holds of one answer alone
+pub told-one : {P : Answer → Type 0} {r : Counted} (a : Answer) → ((o : Answer) → P o → o ≡ a) → Told P r → r ≡ counted a
+told-one a only t = t .form ∙ ap counted (only (t .told) (t .holds))
+
+pub edit-one : {P : Edit → Type 0} {r : Spliced} (a : Edit) → ((o : Edit) → P o → o ≡ a) → ToldEdit P r → r ≡ splicedAs a
+edit-one a only t = t .form ∙ ap splicedAs (only (t .told) (t .holds))
+
+-- decoding a column of optional readings: the answer and both slices
+module _ {R B : Type 0} {t : Trace R} {f : R → B} {g : R → ℕ} {v v′ : List B} {p p′ : List ℕ} {r : Counted} where
+  pub decoded-answer : Told (Decoded t f g v v′ p p′) r → r ≡ counted (decoding t (length v) (length p))
+  decoded-answer = told-one (decoding t (length v) (length p)) (λ o d. d .answer)
+
+  pub decoded-values : Told (Decoded t f g v v′ p p′) r → v′ ≡ left (decoding t (length v) (length p)) (map f (t .readings)) v
+  decoded-values d = d .holds .values ∙ ap (λ (o : Answer). left o (map f (t .readings)) v) (d .holds .answer)
+
+  pub decoded-flags : Told (Decoded t f g v v′ p p′) r → p′ ≡ left (decoding t (length v) (length p)) (map g (t .readings)) p
+  decoded-flags d = d .holds .flags ∙ ap (λ (o : Answer). left o (map g (t .readings)) p) (d .holds .answer)
+
+-- decoding a boolean column
+module _ {t : Trace ℕ} {v v′ : List ℕ} {r : Counted} where
+  pub booleans-answer : Told (DecodedFlags t v v′) r → r ≡ counted (within 9 (length v) (outcome t))
+  booleans-answer = told-one (within 9 (length v) (outcome t)) (λ o d. d .answer)
+
+  pub booleans-values : Told (DecodedFlags t v v′) r → v′ ≡ left (within 9 (length v) (outcome t)) (t .readings) v
+  booleans-values d = d .holds .values ∙ ap (λ (o : Answer). left o (t .readings) v) (d .holds .answer)
+
+-- encoding a list
+module _ {bytes : List ℕ} {judged : Answer} {out out′ : List ℕ} {r : Counted} where
+  pub encoded-answer : Told (Encoded bytes judged out out′) r → r ≡ counted (within 10 (length out) (sized bytes judged))
+  encoded-answer = told-one (within 10 (length out) (sized bytes judged)) (λ o e. e .answer)
+
+  pub encoded-output : Told (Encoded bytes judged out out′) r → out′ ≡ left (within 10 (length out) (sized bytes judged)) bytes out
+  encoded-output e = e .holds .output ∙ ap (λ (o : Answer). left o bytes out) (e .holds .answer)
+
+-- an edit: its slices are fixed by the edit alone (`OptionalSpliced`, `BooleanSpliced`), and its answer is
+pub optional-answer : {A : Type 0} {K : Kind (Option A)} {nought : A} {s : List ℕ} {position start end : ℕ} {new : List A} {flags : List ℕ}
+    {v v′ : List A} {p p′ out out′ : List ℕ} {r : Spliced}
+    → ToldEdit (OptionalSpliced K nought s position start end new flags v v′ p p′ out out′) r
+    → r ≡ splicedAs (answered (optionalEdit K s position start end new flags (length v) (length p) (length out)))
+optional-answer {A} {K} {nought} {s} {position} {start} {end} {new} {flags} {v} {v′} {p} {p′} {out} =
+    edit-one (answered (optionalEdit K s position start end new flags (length v) (length p) (length out))) (λ o e. e .answer)
+
+pub boolean-answer : {K : Kind ℕ} {s : List ℕ} {position start end : ℕ} {new v v′ out out′ : List ℕ} {r : Spliced}
+    → ToldEdit (BooleanSpliced K s position start end new v v′ out out′) r
+    → r ≡ splicedAs (answered (booleanEdit K s position start end new (length v) (length out)))
+boolean-answer {K} {s} {position} {start} {end} {new} {v} {v′} {out} =
+    edit-one (answered (booleanEdit K s position start end new (length v) (length out))) (λ o e. e .answer)
