@@ -7,7 +7,8 @@ pub mod column_specification;
 pub mod delta;
 pub mod leb128;
 mod lists;
-mod raw;
+/// The boundary itself, for callers that lend buffers of their own.
+pub mod raw;
 pub mod raw_column;
 pub mod rle;
 pub mod splice;
