@@ -86,10 +86,13 @@ static void slots(void) {
     LEFT(uint64_t, u, 1, 7, 8, 3);
     int64_t i[4] = {-1, -2, -3, OLD};
     COUNTED(grundavok_slots_splice_i64(ALL(i), 3, 0, 4, ALL(depths)), 18, 0, 0);
+    COUNTED(grundavok_slots_splice_i64(i, 2, 3, 0, 0, ALL(depths)), 9, 0, 0);
+    LEFT(int64_t, i, -1, -2, -3, OLD);
     COUNTED(grundavok_slots_splice_i64(ALL(i), 3, 0, 3, ALL(depths)), 0, 0, 1);
     LEFT(int64_t, i, -7, 0, 0, OLD);
     uint8_t b[4] = {1, 0, 1, OLD};
     COUNTED(grundavok_slots_splice_u8(b, 2, 3, 0, 0, SLICE(1)), 9, 0, 0);
+    COUNTED(grundavok_slots_splice_u8(ALL(b), 3, 2, 1, SLICE(1)), 18, 0, 0);
     COUNTED(grundavok_slots_splice_u8(ALL(b), 3, 1, 1, SLICE(1)), 0, 0, 4);
     LEFT(uint8_t, b, 1, 1, 0, 1);
 }
