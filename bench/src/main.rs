@@ -97,14 +97,37 @@ fn columns(rows: &mut Rows, shape: &str, n: usize) {
             let (mut v2, mut p2) = (vec![Default::default(); n], vec![0u8; n]);
             let read = $decode(&bytes, &mut v2, &mut p2) as usize;
             let list = $kind::decode(&bytes, n).unwrap();
-            assert_eq!((&v2[..read], &p2[..read]), { let (a, b) = slots(&list); (&a.clone()[..], &b.clone()[..]) });
+            assert_eq!((&v2[..read], &p2[..read]), {
+                let (a, b) = slots(&list);
+                (&a.clone()[..], &b.clone()[..])
+            });
             let name = format!("{} decode, {shape}", stringify!($kind));
             if rows.wants(&name) {
-                rows.row(&name, n, n, || { black_box($decode(black_box(&bytes), &mut v2, &mut p2)); }, || { black_box($kind::decode(black_box(&bytes), n).unwrap()); });
+                rows.row(
+                    &name,
+                    n,
+                    n,
+                    || {
+                        black_box($decode(black_box(&bytes), &mut v2, &mut p2));
+                    },
+                    || {
+                        black_box($kind::decode(black_box(&bytes), n).unwrap());
+                    },
+                );
             }
             let name = format!("{} encode, {shape}", stringify!($kind));
             if rows.wants(&name) {
-                rows.row(&name, n, n, || { black_box($encode(black_box(&v), &p, &mut out)); }, || { black_box($kind::encode(black_box(&$list))); });
+                rows.row(
+                    &name,
+                    n,
+                    n,
+                    || {
+                        black_box($encode(black_box(&v), &p, &mut out));
+                    },
+                    || {
+                        black_box($kind::encode(black_box(&$list)));
+                    },
+                );
             }
         };
     }
@@ -120,11 +143,31 @@ fn columns(rows: &mut Rows, shape: &str, n: usize) {
     assert_eq!(v, given);
     let name = format!("boolean decode, {shape}");
     if rows.wants(&name) {
-        rows.row(&name, n, n, || { black_box(ours::boolean_decode(black_box(&bytes), &mut v)); }, || { black_box(boolean::decode(black_box(&bytes), n).unwrap()); });
+        rows.row(
+            &name,
+            n,
+            n,
+            || {
+                black_box(ours::boolean_decode(black_box(&bytes), &mut v));
+            },
+            || {
+                black_box(boolean::decode(black_box(&bytes), n).unwrap());
+            },
+        );
     }
     let name = format!("boolean encode, {shape}");
     if rows.wants(&name) {
-        rows.row(&name, n, n, || { black_box(ours::boolean_encode(black_box(&given), &mut out)); }, || { black_box(boolean::encode(black_box(&flags))); });
+        rows.row(
+            &name,
+            n,
+            n,
+            || {
+                black_box(ours::boolean_encode(black_box(&given), &mut out));
+            },
+            || {
+                black_box(boolean::encode(black_box(&flags)));
+            },
+        );
     }
 }
 
@@ -153,7 +196,17 @@ fn readers(rows: &mut Rows) {
             sum
         };
         assert_eq!(ours(), rust());
-        rows.row("numbers, unsigned", n, n, || { black_box(ours()); }, || { black_box(rust()); });
+        rows.row(
+            "numbers, unsigned",
+            n,
+            n,
+            || {
+                black_box(ours());
+            },
+            || {
+                black_box(rust());
+            },
+        );
     }
     if rows.wants("numbers, signed") {
         let ours = || {
@@ -173,7 +226,17 @@ fn readers(rows: &mut Rows) {
             sum
         };
         assert_eq!(ours(), rust());
-        rows.row("numbers, signed", n, n, || { black_box(ours()); }, || { black_box(rust()); });
+        rows.row(
+            "numbers, signed",
+            n,
+            n,
+            || {
+                black_box(ours());
+            },
+            || {
+                black_box(rust());
+            },
+        );
     }
 }
 
@@ -194,7 +257,17 @@ fn tables(rows: &mut Rows) {
         let (start, parsed) = table::parse(&bytes).unwrap();
         assert_eq!((opened.number, opened.start, opened.table.rows), (0, start, parsed.len()));
         if rows.wants("table") {
-            rows.row("table", n, n, || { black_box(ours::read_table(black_box(&bytes))); }, || { black_box(table::parse(black_box(&bytes)).unwrap()); });
+            rows.row(
+                "table",
+                n,
+                n,
+                || {
+                    black_box(ours::read_table(black_box(&bytes)));
+                },
+                || {
+                    black_box(table::parse(black_box(&bytes)).unwrap());
+                },
+            );
         }
     }
 }
@@ -220,7 +293,26 @@ fn edits(rows: &mut Rows, n: usize) {
         assert_eq!(&out[..len], &want[..]);
         let name = format!("edit of a delta column, {place}");
         if rows.wants(&name) {
-            rows.row(&name, n, n, || { black_box(ours::splice_delta(black_box(&bytes), start, start + 4, &new, &f, &mut v, &mut p, &mut out)); }, || { black_box(rust()); });
+            rows.row(
+                &name,
+                n,
+                n,
+                || {
+                    black_box(ours::splice_delta(
+                        black_box(&bytes),
+                        start,
+                        start + 4,
+                        &new,
+                        &f,
+                        &mut v,
+                        &mut p,
+                        &mut out,
+                    ));
+                },
+                || {
+                    black_box(rust());
+                },
+            );
         }
     }
     let unsigned: Vec<Option<u64>> = list.iter().map(|x| x.map(|v| (v + 1_000_000) as u64)).collect();
@@ -239,7 +331,26 @@ fn edits(rows: &mut Rows, n: usize) {
     let len = ours::splice_integer(&bytes, start, start + 4, &new, &f, &mut v, &mut p, &mut out);
     assert_eq!(&out[..len], &want[..]);
     if rows.wants("edit of an integer column, middle") {
-        rows.row("edit of an integer column, middle", n, n, || { black_box(ours::splice_integer(black_box(&bytes), start, start + 4, &new, &f, &mut v, &mut p, &mut out)); }, || { black_box(rust()); });
+        rows.row(
+            "edit of an integer column, middle",
+            n,
+            n,
+            || {
+                black_box(ours::splice_integer(
+                    black_box(&bytes),
+                    start,
+                    start + 4,
+                    &new,
+                    &f,
+                    &mut v,
+                    &mut p,
+                    &mut out,
+                ));
+            },
+            || {
+                black_box(rust());
+            },
+        );
     }
     let flags: Vec<bool> = list.iter().map(|x| x.is_some_and(|v| v / 4 % 2 == 0)).collect();
     let bytes = block(&others(boolean::encode(&flags), 0x14));
@@ -254,12 +365,33 @@ fn edits(rows: &mut Rows, n: usize) {
     let len = ours::splice_boolean(&bytes, start, start + 4, &[1, 0, 1, 1], &mut v, &mut out);
     assert_eq!(&out[..len], &want[..]);
     if rows.wants("edit of a boolean column, middle") {
-        rows.row("edit of a boolean column, middle", n, n, || { black_box(ours::splice_boolean(black_box(&bytes), start, start + 4, &[1, 0, 1, 1], &mut v, &mut out)); }, || { black_box(rust()); });
+        rows.row(
+            "edit of a boolean column, middle",
+            n,
+            n,
+            || {
+                black_box(ours::splice_boolean(
+                    black_box(&bytes),
+                    start,
+                    start + 4,
+                    &[1, 0, 1, 1],
+                    &mut v,
+                    &mut out,
+                ));
+            },
+            || {
+                black_box(rust());
+            },
+        );
     }
 }
 
 fn main() {
-    let mut rows = Rows { words: std::env::args().skip(1).collect(), ahead: 0, rows: 0 };
+    let mut rows = Rows {
+        words: std::env::args().skip(1).collect(),
+        ahead: 0,
+        rows: 0,
+    };
     println!("{:<34} {:>9} {:>10} {:>10} {:>8}", "what", "size", "ours ns", "Rust ns", "ratio");
     readers(&mut rows);
     tables(&mut rows);

@@ -25,20 +25,24 @@ macro_rules! optional {
         }
 
         #[allow(clippy::too_many_arguments)]
-        pub fn $splice(
-            s: &[u8],
-            start: usize,
-            end: usize,
-            new: &[$t],
-            f: &[u8],
-            v: &mut [$t],
-            p: &mut [u8],
-            out: &mut [u8],
-        ) -> usize {
+        pub fn $splice(s: &[u8], start: usize, end: usize, new: &[$t], f: &[u8], v: &mut [$t], p: &mut [u8], out: &mut [u8]) -> usize {
             let a = unsafe {
                 $c_splice(
-                    s.as_ptr(), s.len(), 0, start, end, new.as_ptr(), new.len(), f.as_ptr(), f.len(),
-                    v.as_mut_ptr(), v.len(), p.as_mut_ptr(), p.len(), out.as_mut_ptr(), out.len(),
+                    s.as_ptr(),
+                    s.len(),
+                    0,
+                    start,
+                    end,
+                    new.as_ptr(),
+                    new.len(),
+                    f.as_ptr(),
+                    f.len(),
+                    v.as_mut_ptr(),
+                    v.len(),
+                    p.as_mut_ptr(),
+                    p.len(),
+                    out.as_mut_ptr(),
+                    out.len(),
                 )
             };
             assert_eq!(a.number, 0);
@@ -47,8 +51,24 @@ macro_rules! optional {
     };
 }
 
-optional!(rle_decode, rle_encode, splice_integer, grundavok_rle_decode, grundavok_rle_encode, grundavok_splice_integer, u64);
-optional!(delta_decode, delta_encode, splice_delta, grundavok_delta_decode, grundavok_delta_encode, grundavok_splice_delta, i64);
+optional!(
+    rle_decode,
+    rle_encode,
+    splice_integer,
+    grundavok_rle_decode,
+    grundavok_rle_encode,
+    grundavok_splice_integer,
+    u64
+);
+optional!(
+    delta_decode,
+    delta_encode,
+    splice_delta,
+    grundavok_delta_decode,
+    grundavok_delta_encode,
+    grundavok_splice_delta,
+    i64
+);
 
 pub fn boolean_decode(s: &[u8], v: &mut [u8]) -> u64 {
     let a = unsafe { grundavok_boolean_decode(s.as_ptr(), s.len(), v.as_mut_ptr(), v.len()) };
@@ -65,7 +85,17 @@ pub fn boolean_encode(v: &[u8], out: &mut [u8]) -> usize {
 pub fn splice_boolean(s: &[u8], start: usize, end: usize, new: &[u8], v: &mut [u8], out: &mut [u8]) -> usize {
     let a = unsafe {
         grundavok_splice_boolean(
-            s.as_ptr(), s.len(), 0, start, end, new.as_ptr(), new.len(), v.as_mut_ptr(), v.len(), out.as_mut_ptr(), out.len(),
+            s.as_ptr(),
+            s.len(),
+            0,
+            start,
+            end,
+            new.as_ptr(),
+            new.len(),
+            v.as_mut_ptr(),
+            v.len(),
+            out.as_mut_ptr(),
+            out.len(),
         )
     };
     assert_eq!(a.number, 0);
