@@ -24,27 +24,32 @@ impl Rows {
         self.words.is_empty() || self.words.iter().any(|w| name.contains(w.as_str()))
     }
 
-    /// Times both in turns, `units` a call.
-    fn row(&mut self, name: &str, size: usize, units: usize, mut ours: impl FnMut(), mut rust: impl FnMut()) {
-        let once = |f: &mut dyn FnMut(), calls: usize| {
-            let t = Instant::now();
-            for _ in 0..calls {
-                f();
-            }
-            t.elapsed().as_nanos() as f64 / calls as f64
-        };
-        let guess = once(&mut rust, 1).max(once(&mut ours, 1)).max(20.0);
+    /// Times both in turns, `units` a call, where the row is wanted.
+    fn row<A, B>(&mut self, name: &str, size: usize, units: usize, mut ours: impl FnMut() -> A, mut rust: impl FnMut() -> B) {
+        if !self.wants(name) {
+            return;
+        }
+        let guess = time(&mut rust, 1).max(time(&mut ours, 1)).max(20.0);
         let calls = ((2_000_000.0 / guess) as usize).clamp(1, 200_000);
         let (mut a, mut b) = (f64::MAX, f64::MAX);
         for _ in 0..TURNS {
-            a = a.min(once(&mut ours, calls));
-            b = b.min(once(&mut rust, calls));
+            a = a.min(time(&mut ours, calls));
+            b = b.min(time(&mut rust, calls));
         }
         let (a, b) = (a / units as f64, b / units as f64);
         println!("{name:<34} {size:>9} {a:>10.2} {b:>10.2} {:>8.2}", a / b);
         self.rows += 1;
         self.ahead += usize::from(a <= b);
     }
+}
+
+/// Nanoseconds a call.
+fn time<A>(f: &mut impl FnMut() -> A, calls: usize) -> f64 {
+    let t = Instant::now();
+    for _ in 0..calls {
+        black_box(f());
+    }
+    t.elapsed().as_nanos() as f64 / calls as f64
 }
 
 /// Strokes: depths in micrometres, as a scan has them.
@@ -96,39 +101,23 @@ fn columns(rows: &mut Rows, shape: &str, n: usize) {
             assert_eq!(out, bytes);
             let (mut v2, mut p2) = (vec![Default::default(); n], vec![0u8; n]);
             let read = $decode(&bytes, &mut v2, &mut p2) as usize;
-            let list = $kind::decode(&bytes, n).unwrap();
-            assert_eq!((&v2[..read], &p2[..read]), {
-                let (a, b) = slots(&list);
-                (&a.clone()[..], &b.clone()[..])
-            });
-            let name = format!("{} decode, {shape}", stringify!($kind));
-            if rows.wants(&name) {
-                rows.row(
-                    &name,
-                    n,
-                    n,
-                    || {
-                        black_box($decode(black_box(&bytes), &mut v2, &mut p2));
-                    },
-                    || {
-                        black_box($kind::decode(black_box(&bytes), n).unwrap());
-                    },
-                );
-            }
-            let name = format!("{} encode, {shape}", stringify!($kind));
-            if rows.wants(&name) {
-                rows.row(
-                    &name,
-                    n,
-                    n,
-                    || {
-                        black_box($encode(black_box(&v), &p, &mut out));
-                    },
-                    || {
-                        black_box($kind::encode(black_box(&$list)));
-                    },
-                );
-            }
+            let (v3, p3) = slots(&$kind::decode(&bytes, n).unwrap());
+            assert_eq!((&v2[..read], &p2[..read]), (&v3[..], &p3[..]));
+            let name = |what| format!("{} {what}, {shape}", stringify!($kind));
+            rows.row(
+                &name("decode"),
+                n,
+                n,
+                || $decode(black_box(&bytes), &mut v2, &mut p2),
+                || $kind::decode(black_box(&bytes), n),
+            );
+            rows.row(
+                &name("encode"),
+                n,
+                n,
+                || $encode(black_box(&v), &p, &mut out),
+                || $kind::encode(black_box(&$list)),
+            );
         };
     }
     optional!(rle, unsigned, ours::rle_decode, ours::rle_encode);
@@ -141,103 +130,59 @@ fn columns(rows: &mut Rows, shape: &str, n: usize) {
     let mut v = vec![0u8; n];
     assert_eq!(ours::boolean_decode(&bytes, &mut v) as usize, n);
     assert_eq!(v, given);
-    let name = format!("boolean decode, {shape}");
-    if rows.wants(&name) {
-        rows.row(
-            &name,
-            n,
-            n,
-            || {
-                black_box(ours::boolean_decode(black_box(&bytes), &mut v));
-            },
-            || {
-                black_box(boolean::decode(black_box(&bytes), n).unwrap());
-            },
-        );
-    }
-    let name = format!("boolean encode, {shape}");
-    if rows.wants(&name) {
-        rows.row(
-            &name,
-            n,
-            n,
-            || {
-                black_box(ours::boolean_encode(black_box(&given), &mut out));
-            },
-            || {
-                black_box(boolean::encode(black_box(&flags)));
-            },
-        );
-    }
+    let name = |what| format!("boolean {what}, {shape}");
+    rows.row(
+        &name("decode"),
+        n,
+        n,
+        || ours::boolean_decode(black_box(&bytes), &mut v),
+        || boolean::decode(black_box(&bytes), n),
+    );
+    rows.row(
+        &name("encode"),
+        n,
+        n,
+        || ours::boolean_encode(black_box(&given), &mut out),
+        || boolean::encode(black_box(&flags)),
+    );
 }
 
-/// Numbers of all lengths, one behind another.
+/// The sum of numbers that stand one behind another: `read` gives the one at a position, and the position behind it.
+fn sum(bytes: &[u8], read: impl Fn(usize) -> (u64, usize)) -> u64 {
+    let (mut at, mut sum) = (0, 0u64);
+    while at < bytes.len() {
+        let (v, next) = read(at);
+        (at, sum) = (next, sum.wrapping_add(v));
+    }
+    sum
+}
+
+/// Numbers of all lengths.
 fn readers(rows: &mut Rows) {
     let n = 10_000;
     let mut random = Random(3);
     let values: Vec<u64> = (0..n).map(|_| random.number() >> random.below(64)).collect();
-    let unsigned: Vec<u8> = values.iter().flat_map(|&v| numbers::write_u64(v)).collect();
-    let signed: Vec<u8> = values.iter().flat_map(|&v| numbers::write_i64(v as i64)).collect();
-    if rows.wants("numbers, unsigned") {
-        let ours = || {
-            let (mut at, mut sum) = (0, 0u64);
-            while at < unsigned.len() {
-                let r = ours::leb128_u64(&unsigned, at);
-                (at, sum) = (r.next, sum.wrapping_add(r.value));
-            }
-            sum
+    macro_rules! reader {
+        ($name:expr, $read:ident, $write:expr) => {
+            let bytes: Vec<u8> = values.iter().flat_map(|&v| $write(v)).collect();
+            let ours = || {
+                sum(&bytes, |at| {
+                    let r = ours::$read(&bytes, at);
+                    (r.value as u64, r.next)
+                })
+            };
+            let rust = || {
+                sum(&bytes, |at| {
+                    let (v, took) = numbers::$read(&bytes[at..]).unwrap();
+                    (v, at + took)
+                })
+            };
+            assert_eq!(ours(), rust());
+            rows.row($name, n, n, ours, rust);
         };
-        let rust = || {
-            let (mut at, mut sum) = (0, 0u64);
-            while at < unsigned.len() {
-                let (v, took) = numbers::leb128_u64(&unsigned[at..]).unwrap();
-                (at, sum) = (at + took, sum.wrapping_add(v));
-            }
-            sum
-        };
-        assert_eq!(ours(), rust());
-        rows.row(
-            "numbers, unsigned",
-            n,
-            n,
-            || {
-                black_box(ours());
-            },
-            || {
-                black_box(rust());
-            },
-        );
     }
-    if rows.wants("numbers, signed") {
-        let ours = || {
-            let (mut at, mut sum) = (0, 0u64);
-            while at < signed.len() {
-                let r = ours::leb128_i64(&signed, at);
-                (at, sum) = (r.next, sum.wrapping_add(r.value as u64));
-            }
-            sum
-        };
-        let rust = || {
-            let (mut at, mut sum) = (0, 0u64);
-            while at < signed.len() {
-                let (v, took) = numbers::leb128_i64(&signed[at..]).unwrap();
-                (at, sum) = (at + took, sum.wrapping_add(v));
-            }
-            sum
-        };
-        assert_eq!(ours(), rust());
-        rows.row(
-            "numbers, signed",
-            n,
-            n,
-            || {
-                black_box(ours());
-            },
-            || {
-                black_box(rust());
-            },
-        );
-    }
+    reader!("numbers, unsigned", leb128_u64, numbers::write_u64);
+    reader!("numbers, signed", leb128_i64, |v| numbers::write_i64(v as i64));
 }
 
 fn block(columns: &[(u32, Vec<u8>)]) -> Vec<u8> {
@@ -256,134 +201,78 @@ fn tables(rows: &mut Rows) {
         let opened = ours::read_table(&bytes);
         let (start, parsed) = table::parse(&bytes).unwrap();
         assert_eq!((opened.number, opened.start, opened.table.rows), (0, start, parsed.len()));
-        if rows.wants("table") {
-            rows.row(
-                "table",
-                n,
-                n,
-                || {
-                    black_box(ours::read_table(black_box(&bytes)));
-                },
-                || {
-                    black_box(table::parse(black_box(&bytes)).unwrap());
-                },
-            );
-        }
+        rows.row(
+            "table",
+            n,
+            n,
+            || ours::read_table(black_box(&bytes)),
+            || table::parse(black_box(&bytes)),
+        );
     }
 }
 
-/// The whole edit: the table read, the range replaced, and the new block of three columns written.
+/// The Rust's whole edit: the table read, the first column's range replaced by `splice`, and the new block written.
+fn edited(bytes: &[u8], splice: impl Fn(&[u8]) -> Vec<u8>) -> Vec<u8> {
+    let (at, parsed) = table::parse(bytes).unwrap();
+    let part = |&(spec, start, len): &(u32, usize, usize)| (spec, bytes[at + start..at + start + len].to_vec());
+    let mut parts: Vec<(u32, Vec<u8>)> = parsed.iter().map(part).collect();
+    parts[0].1 = splice(&parts[0].1);
+    block(&parts)
+}
+
+/// Edits of the first of three columns.
 fn edits(rows: &mut Rows, n: usize) {
-    let others = |own: Vec<u8>, spec: u32| vec![(spec, own), (0x27, vec![1; 1_000]), (0x37, vec![2; 1_000])];
+    let among = |own: Vec<u8>, spec: u32| block(&[(spec, own), (0x27, vec![1; 1_000]), (0x37, vec![2; 1_000])]);
     let list = stroke("smooth", n);
-    let (new, f) = slots(&[Some(5i64), None, Some(-7), Some(8)]);
-    let fresh = [Some(5i64), None, Some(-7), Some(8)];
-    let cols = others(delta::encode(&list), 0x13);
-    let bytes = block(&cols);
-    for (place, start) in [("front", 0), ("middle", n / 2), ("end", n - 4)] {
-        let rust = || {
-            let (at, parsed) = table::parse(&bytes).unwrap();
-            let mut parts: Vec<(u32, Vec<u8>)> = parsed.iter().map(|r| (r.0, bytes[at + r.1..at + r.1 + r.2].to_vec())).collect();
-            parts[0].1 = delta::splice(&parts[0].1, start, start + 4, &fresh).unwrap();
-            block(&parts)
+    macro_rules! optional {
+        ($kind:ident, $spec:expr, $what:expr, $list:expr, $fresh:expr, $splice:path, $places:expr) => {
+            let fresh = $fresh;
+            let (new, f) = slots(&fresh);
+            let bytes = among($kind::encode(&$list), $spec);
+            for (place, start) in $places {
+                let rust = || edited(black_box(&bytes), |c| $kind::splice(c, start, start + 4, &fresh).unwrap());
+                let want = rust();
+                let (mut v, mut p, mut out) = (vec![Default::default(); n + 4], vec![0u8; n + 4], vec![0u8; want.len() + 8]);
+                let len = $splice(&bytes, start, start + 4, &new, &f, &mut v, &mut p, &mut out);
+                assert_eq!(&out[..len], &want[..]);
+                let name = format!("edit of {} column, {place}", $what);
+                rows.row(
+                    &name,
+                    n,
+                    n,
+                    || $splice(black_box(&bytes), start, start + 4, &new, &f, &mut v, &mut p, &mut out),
+                    rust,
+                );
+            }
         };
-        let want = rust();
-        let (mut v, mut p, mut out) = (vec![0i64; n + 4], vec![0u8; n + 4], vec![0u8; want.len() + 8]);
-        let len = ours::splice_delta(&bytes, start, start + 4, &new, &f, &mut v, &mut p, &mut out);
-        assert_eq!(&out[..len], &want[..]);
-        let name = format!("edit of a delta column, {place}");
-        if rows.wants(&name) {
-            rows.row(
-                &name,
-                n,
-                n,
-                || {
-                    black_box(ours::splice_delta(
-                        black_box(&bytes),
-                        start,
-                        start + 4,
-                        &new,
-                        &f,
-                        &mut v,
-                        &mut p,
-                        &mut out,
-                    ));
-                },
-                || {
-                    black_box(rust());
-                },
-            );
-        }
     }
+    let signed = [Some(5i64), None, Some(-7), Some(8)];
+    optional!(
+        delta,
+        0x13,
+        "a delta",
+        list,
+        signed,
+        ours::splice_delta,
+        [("front", 0), ("middle", n / 2), ("end", n - 4)]
+    );
     let unsigned: Vec<Option<u64>> = list.iter().map(|x| x.map(|v| (v + 1_000_000) as u64)).collect();
-    let (new, f) = slots(&[Some(5u64), None, Some(7), Some(8)]);
-    let fresh = [Some(5u64), None, Some(7), Some(8)];
-    let bytes = block(&others(rle::encode(&unsigned), 0x12));
+    let given = [Some(5u64), None, Some(7), Some(8)];
+    optional!(rle, 0x12, "an integer", unsigned, given, ours::splice_integer, [("middle", n / 2)]);
+    let flags: Vec<bool> = list.iter().map(|x| x.is_some_and(|v| v / 4 % 2 == 0)).collect();
+    let bytes = among(boolean::encode(&flags), 0x14);
     let start = n / 2;
     let rust = || {
-        let (at, parsed) = table::parse(&bytes).unwrap();
-        let mut parts: Vec<(u32, Vec<u8>)> = parsed.iter().map(|r| (r.0, bytes[at + r.1..at + r.1 + r.2].to_vec())).collect();
-        parts[0].1 = rle::splice(&parts[0].1, start, start + 4, &fresh).unwrap();
-        block(&parts)
-    };
-    let want = rust();
-    let (mut v, mut p, mut out) = (vec![0u64; n + 4], vec![0u8; n + 4], vec![0u8; want.len() + 8]);
-    let len = ours::splice_integer(&bytes, start, start + 4, &new, &f, &mut v, &mut p, &mut out);
-    assert_eq!(&out[..len], &want[..]);
-    if rows.wants("edit of an integer column, middle") {
-        rows.row(
-            "edit of an integer column, middle",
-            n,
-            n,
-            || {
-                black_box(ours::splice_integer(
-                    black_box(&bytes),
-                    start,
-                    start + 4,
-                    &new,
-                    &f,
-                    &mut v,
-                    &mut p,
-                    &mut out,
-                ));
-            },
-            || {
-                black_box(rust());
-            },
-        );
-    }
-    let flags: Vec<bool> = list.iter().map(|x| x.is_some_and(|v| v / 4 % 2 == 0)).collect();
-    let bytes = block(&others(boolean::encode(&flags), 0x14));
-    let rust = || {
-        let (at, parsed) = table::parse(&bytes).unwrap();
-        let mut parts: Vec<(u32, Vec<u8>)> = parsed.iter().map(|r| (r.0, bytes[at + r.1..at + r.1 + r.2].to_vec())).collect();
-        parts[0].1 = boolean::splice(&parts[0].1, start, start + 4, &[true, false, true, true]).unwrap();
-        block(&parts)
+        edited(black_box(&bytes), |c| {
+            boolean::splice(c, start, start + 4, &[true, false, true, true]).unwrap()
+        })
     };
     let want = rust();
     let (mut v, mut out) = (vec![0u8; n + 4], vec![0u8; want.len() + 8]);
-    let len = ours::splice_boolean(&bytes, start, start + 4, &[1, 0, 1, 1], &mut v, &mut out);
+    let ours = |v: &mut [u8], out: &mut [u8]| ours::splice_boolean(black_box(&bytes), start, start + 4, &[1, 0, 1, 1], v, out);
+    let len = ours(&mut v, &mut out);
     assert_eq!(&out[..len], &want[..]);
-    if rows.wants("edit of a boolean column, middle") {
-        rows.row(
-            "edit of a boolean column, middle",
-            n,
-            n,
-            || {
-                black_box(ours::splice_boolean(
-                    black_box(&bytes),
-                    start,
-                    start + 4,
-                    &[1, 0, 1, 1],
-                    &mut v,
-                    &mut out,
-                ));
-            },
-            || {
-                black_box(rust());
-            },
-        );
-    }
+    rows.row("edit of a boolean column, middle", n, n, || ours(&mut v, &mut out), rust);
 }
 
 fn main() {

@@ -24,6 +24,21 @@ fn lengths(old: Result<usize, Refusal>, start: usize, end: usize, new: usize) ->
     (old, start + new + old.saturating_sub(end.max(start)))
 }
 
+/// With no output every edit is refused: with 10 where nothing else is wrong, and the slots then hold the new list.
+fn until_10(r: raw::Spliced) -> Result<(), Refusal> {
+    if r.number == 10 {
+        return Ok(());
+    }
+    judged(r.number, r.place, ())
+}
+
+/// An edit's answer, its output and the list in its slots.
+fn ended<T>(r: raw::Spliced, mut out: Vec<u8>, list: Vec<T>) -> Result<Spliced<T>, Refusal> {
+    out.truncate(r.len);
+    let rows = rows(&r.table);
+    judged(r.number, r.place, Spliced { block: out, rows, list })
+}
+
 macro_rules! optional_splice {
     ($name:ident, $element:ty, $column:ident, $call:ident) => {
         pub fn $name(
@@ -55,25 +70,11 @@ macro_rules! optional_splice {
                     out.len(),
                 )
             };
-            // With no output every edit is refused; with 10 where nothing else is wrong, and the slots then hold the new list.
-            let refused = edit(&mut [], &mut values, &mut present);
-            if refused.number != 10 {
-                judged(refused.number, refused.place, ())?;
-            }
+            until_10(edit(&mut [], &mut values, &mut present))?;
             let size = $column::size(&values[..len], &present[..len])?;
             let mut out = vec![0; block.len() + size + TABLE_GROWTH];
             let r = edit(&mut out, &mut values, &mut present);
-            out.truncate(r.len);
-            let list = lists::together(&values[..len], &present[..len]);
-            judged(
-                r.number,
-                r.place,
-                Spliced {
-                    block: out,
-                    rows: rows(&r.table),
-                    list,
-                },
-            )
+            ended(r, out, lists::together(&values[..len], &present[..len]))
         }
     };
 }
@@ -100,22 +101,9 @@ pub fn splice_boolean(block: &[u8], position: usize, start: usize, end: usize, n
             out.len(),
         )
     };
-    let refused = edit(&mut [], &mut values);
-    if refused.number != 10 {
-        judged(refused.number, refused.place, ())?;
-    }
+    until_10(edit(&mut [], &mut values))?;
     let size = boolean::size(&values[..len])?;
     let mut out = vec![0; block.len() + size + TABLE_GROWTH];
     let r = edit(&mut out, &mut values);
-    out.truncate(r.len);
-    let list = lists::booleans(&values[..len]);
-    judged(
-        r.number,
-        r.place,
-        Spliced {
-            block: out,
-            rows: rows(&r.table),
-            list,
-        },
-    )
+    ended(r, out, lists::booleans(&values[..len]))
 }
