@@ -64,7 +64,7 @@ module _ {s : List ℕ} {position start end at till old len : ℕ} (new v : List
       holds : v₂ ≡ inSlots 0 v old xs
       holds =
           in-loaded 0 v old start e rs new many-read loaded
-          (splice-fits 0 v₁ old start e new (omega (arith, least, R .ordered, R .starts)) (omega (arith, least)) (omega (arith, kept, R .old-fits))
+          (splice-fits 0 v₁ old start e new (omega (arith, least, R .located .ordered, R .starts)) (omega (arith, least)) (omega (arith, kept, R .old-fits))
           (omega (arith, kept, least, R .new-fits, R .long)) P)
           ∙ ap (λ (n : ℕ). inSlots 0 v old (spliced rs start n new)) least
 

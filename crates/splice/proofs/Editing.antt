@@ -56,31 +56,31 @@ module _ {A : Type 0} (K : Kind A) {s : List ℕ} {position start end n slots at
   abbrev pub newList : List A
   newList = spliced (K .reads columnIn .readings) start (endIn end old) new
 
-  column-is : take (getD (R .row .lens) position 0) (drop (startOf (R .row .lens) (R .row .next) position) s) ≡ columnIn
+  column-is : take (getD (R .located .row .lens) position 0) (drop (startOf (R .located .row .lens) (R .located .row .next) position) s) ≡ columnIn
   column-is =
-      let a : startOf (R .row .lens) (R .row .next) position ≡ at = sym (R .at-is) in
-      let k : getD (R .row .lens) position 0 ≡ till - at = omega (arith, R .at-is, R .till-is) in
-      ap (λ (n : ℕ). take n (drop (startOf (R .row .lens) (R .row .next) position) s)) k ∙ ap (λ (n : ℕ). take (till - at) (drop n s)) a
+      let a : startOf (R .located .row .lens) (R .located .row .next) position ≡ at = sym (R .located .at-is) in
+      let k : getD (R .located .row .lens) position 0 ≡ till - at = omega (arith, R .located .at-is, R .located .till-is) in
+      ap (λ (n : ℕ). take n (drop (startOf (R .located .row .lens) (R .located .row .next) position) s)) k ∙ ap (λ (n : ℕ). take (till - at) (drop n s)) a
 
   old-is : length (K .reads columnIn .readings) ≡ old
   old-is = sound-is (K .reads columnIn) (R .reads)
 
   pub new-length : length newList ≡ len
   new-length =
-      length-spliced (K .reads columnIn .readings) start (endIn end old) new (omega (arith, R .ordered, R .starts)) (omega (arith, old-is))
+      length-spliced (K .reads columnIn .readings) start (endIn end old) new (omega (arith, R .located .ordered, R .starts)) (omega (arith, old-is))
       ∙ ap (λ (k : ℕ). start + length new + (k - endIn end old)) old-is ∙ ap (λ (k : ℕ). start + k + (old - endIn end old)) (sym many) ∙ sym (R .long)
 
   pub ready-edit : {given : Answer} {g : ℕ} (room : ℕ) → given ≡ done g
       → edited K s position start end given new slots room
-      ≡ finished K old newList room (newBlock s (R .row .specs) (R .row .lens) (R .row .next) position) (K .wide newList)
+      ≡ finished K old newList room (newBlock s (R .located .row .specs) (R .located .row .lens) (R .located .row .next) position) (K .wide newList)
   unfolding edited
   ready-edit {given} {g} room q =
       let m : max old len ≤ slots = omega (arith, R .old-fits, R .new-fits) in
       rw (
-        R .row .is,
-        lt-ltb position (length (R .row .specs)) (R .row .there),
-        R .served,
-        le-ltb end start (R .ordered),
+        R .located .row .is,
+        lt-ltb position (length (R .located .row .specs)) (R .located .row .there),
+        R .located .served,
+        le-ltb end start (R .located .ordered),
         q,
         column-is,
         R .reads,
@@ -93,24 +93,24 @@ module _ {A : Type 0} (K : Kind A) {s : List ℕ} {position start end n slots at
 
   module _ {given : Answer} {g : ℕ} (q : given ≡ done g) {out out′ : List ℕ} {r : Spliced} (F : Finished K s position newList out out′ r) where
     at-row : finishedAt K s position newList (length out)
-        ≡ finished K 0 newList (length out) (newBlock s (R .row .specs) (R .row .lens) (R .row .next) position) (K .wide newList)
+        ≡ finished K 0 newList (length out) (newBlock s (R .located .row .specs) (R .located .row .lens) (R .located .row .next) position) (K .wide newList)
     unfolding finishedAt
-    at-row = rw (R .row .is)
+    at-row = rw (R .located .row .is)
 
     pub edit-answer : r ≡ answered (edited K s position start end given new slots (length out))
     edit-answer =
         F .answer ∙ ap answered at-row
-        ∙ same-answer K newList (length out) (newBlock s (R .row .specs) (R .row .lens) (R .row .next) position) 0 old (K .wide newList)
+        ∙ same-answer K newList (length out) (newBlock s (R .located .row .specs) (R .located .row .lens) (R .located .row .next) position) 0 old (K .wide newList)
         ∙ ap answered (sym (ready-edit (length out) q))
 
     pub edit-output : out′ ≡ outLeft (edited K s position start end given new slots (length out)) out
     edit-output =
         F .output ∙ ap (λ (e : Edited A). outLeft e out) at-row
-        ∙ same-out K newList (length out) (newBlock s (R .row .specs) (R .row .lens) (R .row .next) position) 0 old (K .wide newList) out
+        ∙ same-out K newList (length out) (newBlock s (R .located .row .specs) (R .located .row .lens) (R .located .row .next) position) 0 old (K .wide newList) out
         ∙ ap (λ (e : Edited A). outLeft e out) (sym (ready-edit (length out) q))
 
     pub edit-slots : {B : Type 0} (z : B) (f : A → B) (v : List B) {v′ : List B} → v′ ≡ inSlots z v old (map f newList)
         → v′ ≡ slotsLeft z f (edited K s position start end given new slots (length out)) v
     edit-slots z f v e =
-        e ∙ sym (slots-are K newList (length out) (newBlock s (R .row .specs) (R .row .lens) (R .row .next) position) z f old (K .wide newList) v)
+        e ∙ sym (slots-are K newList (length out) (newBlock s (R .located .row .specs) (R .located .row .lens) (R .located .row .next) position) z f old (K .wide newList) v)
         ∙ ap (λ (x : Edited A). slotsLeft z f x v) (sym (ready-edit (length out) q))

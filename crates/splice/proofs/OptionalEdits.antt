@@ -87,7 +87,7 @@ module _ {A : Type 0} (K : Kind (Option A)) (T : List ℕ → Trace (Reading A))
       pub optional-fits : length v₁ ≡ length v → length p₁ ≡ length p → Fits start e old (length new) (length flags) (length v₁) (length p₁)
       optional-fits k l =
           record {
-            ordered = omega (arith, least, R .ordered, R .starts);
+            ordered = omega (arith, least, R .located .ordered, R .starts);
             within = omega (arith, least);
             old-fits = omega (arith, k, R .old-fits);
             new-fits = omega (arith, k, least, R .new-fits, R .long);

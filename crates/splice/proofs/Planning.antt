@@ -29,7 +29,7 @@ use Rattle.slots.proofs.Splicing.{length-spliced}
 use Rattle.splice.specs.Kind.{Kind}
 use Rattle.splice.specs.Edit.{Edited, stop, endIn, serves, flagsIn, givenOptional, finished, editList, readBy, editColumn, editIn, edited}
 use Rattle.splice.specs.Steps.{rowIn, rowFor, countAs, resultLength, resultJudged, onResult, onCount, onGiven, onRow, planned}
-use Rattle.splice.specs.Ready.{HasRow, Ready}
+use Rattle.splice.specs.Ready.{Located, Ready}
 use Rattle.splice.specs.declared.Row.the-variants as row
 use Rattle.splice.specs.declared.Plan.{Plan}
 use Rattle.splice.specs.declared.Plan.the-variants as plan
@@ -77,14 +77,6 @@ module _ (low high : ℕ) (s : List ℕ) (position start end : ℕ) where
           rw (g .is, lt-ltb position (length (specsOf o)) within, spec-at, e, le-ltb end start t, g .starts-are position h, ← len-at g h)
 
 -- a row that was found
-pub record Located (low high : ℕ) (s : List ℕ) (position start end at till : ℕ) : Type 0 where
-  pub row : HasRow s position
-  pub at-is : at ≡ startOf (row .lens) (row .next) position
-  pub till-is : till ≡ startOf (row .lens) (row .next) position + getD (row .lens) position 0
-  pub ends : till ≤ length s
-  pub ordered : start ≤ end
-  pub served : serves low high (getD (row .specs) position 0) ≡ true
-
 module _ {low high : ℕ} {s : List ℕ} {position start end at till : ℕ} where
   located-in : (specs lens : List ℕ) (next : ℕ) → parse s ≡ tab specs lens next → position < length specs
       → serves low high (getD specs position 0) ≡ true → start ≤ end
@@ -242,16 +234,10 @@ module _ {A : Type 0} (K : Kind A) (counts : (c : List ℕ) → countAs (K .low)
         fits true c m x y = refl
         fits false true m x y = refl
         fits false false m x y =
-            let y′ = ltb-false slots (max k L) y in
-            let f = table-fills s specs lens next e in (
+            let y′ = ltb-false slots (max k L) y in (
               record {
-                row = record { specs = specs; lens = lens; next = next; is = e; there = h };
-                served = v;
-                at-is = refl;
-                till-is = refl;
-                ends = omega (arith, sum-to lens position (omega (arith, f .even)), f .whole);
+                located = located-in specs lens next e h v t refl;
                 reads = ap (λ (c : List ℕ). outcome (K .reads c)) part-is ∙ o ∙ ap done (sym (sound-is (K .reads column) o));
-                ordered = t;
                 starts = m;
                 long = refl;
                 few = ltb-false limit L x;

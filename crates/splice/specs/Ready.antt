@@ -27,15 +27,19 @@ pub record HasRow (s : List ℕ) (position : ℕ) : Type 0 where
   pub is : parse s ≡ tab specs lens next
   pub there : position < length specs
 
--- an edit that no check stops before the slots are filled: its column from `at` up to `till` has `old` readings, and the new list `len`
-pub record Ready {A : Type 0} (K : Kind A) (s : List ℕ) (position start end new slots at till old len : ℕ) : Type 0 where
+-- a row of a type from low to high for a range that is ordered, its column from `at` up to `till`
+pub record Located (low high : ℕ) (s : List ℕ) (position start end at till : ℕ) : Type 0 where
   pub row : HasRow s position
-  pub served : serves (K .low) (K .high) (getD (row .specs) position 0) ≡ true
+  pub served : serves low high (getD (row .specs) position 0) ≡ true
   pub at-is : at ≡ startOf (row .lens) (row .next) position
   pub till-is : till ≡ startOf (row .lens) (row .next) position + getD (row .lens) position 0
   pub ends : till ≤ length s
-  pub reads : outcome (K .reads (take (till - at) (drop at s))) ≡ done old
   pub ordered : start ≤ end
+
+-- an edit that no check stops before the slots are filled: its column has `old` readings, and the new list `len`
+pub record Ready {A : Type 0} (K : Kind A) (s : List ℕ) (position start end new slots at till old len : ℕ) : Type 0 where
+  pub located : Located (K .low) (K .high) s position start end at till
+  pub reads : outcome (K .reads (take (till - at) (drop at s))) ≡ done old
   pub starts : start ≤ old
   pub long : len ≡ resultLength old start end new
   pub few : len ≤ limit

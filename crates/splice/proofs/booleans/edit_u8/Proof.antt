@@ -9,7 +9,7 @@ use Rattle.splice.proofs.booleans.edit_u8.Tie as tie
 load-u8-requires : tie.Need-load-u8-requires
 load-u8-requires c κs =
     let r = c .before .before .before .before .before .pre .0 in
-    (omega (arith, r .at-is, r .till-is), r .ends)
+    (omega (arith, r .located .at-is, r .located .till-is), r .located .ends)
 
 least-requires : tie.Need-least-requires
 least-requires c κs = search needs
@@ -22,7 +22,7 @@ finish-u8-requires c κs =
     let a = c .before .before .before .before .before .before .before .before .before .before .before .before .before .before .before .args in
     let r = c .before .before .before .before .before .before .before .before .before .before .before .before .before .before .before .pre .0 in
     let g = boolean-good (now (a .new)) (now (a .values)) r (c .before .before .before .before .before .before .before .before .before .before .before .before .before .before .before .pre .1) (c .before .before .before .before .before .before .before .before .before .load-u8 .ensures) (c .before .before .before .before .before .before .before .before .before .load-u8 .kept .1 .1 .1 .0) (c .before .before .before .before .before .least .ensures) (c .before .before .before .before .splice-u8 .ensures .1) in
-    (r .row, (omega (arith, r .new-fits, c .before .before .before .before .before .before .before .before .before .load-u8 .kept, c .before .before .before .before .splice-u8 .kept), g))
+    (r .located .row, (omega (arith, r .new-fits, c .before .before .before .before .before .before .before .before .before .load-u8 .kept, c .before .before .before .before .splice-u8 .kept), g))
 
 same-length : tie.Need-same-length
 same-length c = search needs

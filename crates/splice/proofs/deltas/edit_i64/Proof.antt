@@ -13,7 +13,7 @@ use Rattle.splice.proofs.deltas.edit_i64.Tie as tie
 load-i64-requires : tie.Need-load-i64-requires
 load-i64-requires c κs =
     let r = c .before .before .before .before .before .before .pre .0 in
-    (omega (arith, r .at-is, r .till-is), r .ends)
+    (omega (arith, r .located .at-is, r .located .till-is), r .located .ends)
 
 least-requires : tie.Need-least-requires
 least-requires c κs = search needs
@@ -30,7 +30,7 @@ finish-i64-requires c κs =
     let r = c .before .before .before .before .before .before .before .before .before .before .before .before .before .before .before .before .before .before .before .before .pre .0 in
     let g = optional-good delta deltaTrace (λ x. refl) (pos 0) (now (a .new)) (now (a .flags)) (now (a .values)) (now (a .present)) r (c .before .before .before .before .before .before .before .before .before .before .before .before .before .before .before .before .before .before .before .before .pre .1)
     (c .before .before .before .before .before .before .before .before .before .before .before .before .before .load-i64 .ensures) (c .before .before .before .before .before .before .before .least .ensures) (c .before .before .before .before .before .before .replace-i64 .ensures) in
-    (r .row, ((omega (arith, r .new-fits, c .before .before .before .before .before .before .before .before .before .before .before .before .before .load-i64 .kept, c .before .before .before .before .before .before .replace-i64 .kept), omega (arith, r .new-fits, given-good _ _ _ (now (a .flags)) (c .before .before .before .before .before .before .before .before .before .before .before .before .before .before .before .before .before .before .before .before .pre .1) .even, c .before .before .before .before .before .before .before .before .before .before .before .before .before .load-i64 .kept, c .before .before .before .before .before .before .replace-i64 .kept)), g))
+    (r .located .row, ((omega (arith, r .new-fits, c .before .before .before .before .before .before .before .before .before .before .before .before .before .load-i64 .kept, c .before .before .before .before .before .before .replace-i64 .kept), omega (arith, r .new-fits, given-good _ _ _ (now (a .flags)) (c .before .before .before .before .before .before .before .before .before .before .before .before .before .before .before .before .before .before .before .before .pre .1) .even, c .before .before .before .before .before .before .before .before .before .before .before .before .before .load-i64 .kept, c .before .before .before .before .before .before .replace-i64 .kept)), g))
 
 same-length : tie.Need-same-length
 same-length c = search needs

@@ -14,7 +14,7 @@ use Rattle.splice.proofs.integers.edit_u64.Tie as tie
 load-u64-requires : tie.Need-load-u64-requires
 load-u64-requires c κs =
     let r = c .before .before .before .before .before .before .before .before .pre .0 in
-    (omega (arith, r .at-is, r .till-is), r .ends)
+    (omega (arith, r .located .at-is, r .located .till-is), r .located .ends)
 
 least-requires : tie.Need-least-requires
 least-requires c κs = search needs
@@ -31,7 +31,7 @@ finish-u64-requires c κs =
     let r = c .before .before .before .before .before .before .before .before .before .before .before .before .before .before .before .before .before .before .before .before .before .before .before .before .pre .0 in
     let g = optional-good integer (trace u64E) (λ x. refl) 0 (now (a .new)) (now (a .flags)) (now (a .values)) (now (a .present)) r (c .before .before .before .before .before .before .before .before .before .before .before .before .before .before .before .before .before .before .before .before .before .before .before .before .pre .1)
     (c .before .before .before .before .before .before .before .before .before .before .before .before .before .before .before .load-u64 .ensures) (c .before .before .before .before .before .before .before .before .least .ensures) (c .before .before .before .before .before .before .before .replace-u64 .ensures) in
-    (r .row, ((omega (arith, r .new-fits, c .before .before .before .before .before .before .before .before .before .before .before .before .before .before .before .load-u64 .kept, c .before .before .before .before .before .before .before .replace-u64 .kept), omega (arith, r .new-fits, given-good _ _ _ (now (a .flags)) (c .before .before .before .before .before .before .before .before .before .before .before .before .before .before .before .before .before .before .before .before .before .before .before .before .pre .1) .even, c .before .before .before .before .before .before .before .before .before .before .before .before .before .before .before .load-u64 .kept, c .before .before .before .before .before .before .before .replace-u64 .kept)), g))
+    (r .located .row, ((omega (arith, r .new-fits, c .before .before .before .before .before .before .before .before .before .before .before .before .before .before .before .load-u64 .kept, c .before .before .before .before .before .before .before .replace-u64 .kept), omega (arith, r .new-fits, given-good _ _ _ (now (a .flags)) (c .before .before .before .before .before .before .before .before .before .before .before .before .before .before .before .before .before .before .before .before .before .before .before .before .pre .1) .even, c .before .before .before .before .before .before .before .before .before .before .before .before .before .before .before .load-u64 .kept, c .before .before .before .before .before .before .before .replace-u64 .kept)), g))
 
 same-length : tie.Need-same-length
 same-length c = search needs
