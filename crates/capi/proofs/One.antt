@@ -9,7 +9,7 @@ use Rattle.leb128.specs.Answer.{Answer, within, left}
 use Rattle.encoding.specs.Given.{sized, Encoded}
 use Rattle.encoding.specs.Slots.{decoding, Decoded}
 use Rattle.encoding.specs.Walk.{Trace, outcome}
-use Rattle.boolean.specs.Decoded.{Decoded as DecodedFlags}
+use Rattle.boolean_decoder.specs.Decoded.{Decoded as DecodedFlags}
 use Rattle.splice.specs.Contract.{optionalEdit, OptionalSpliced, booleanEdit, BooleanSpliced}
 use Rattle.splice.specs.Edit.{answered}
 use Rattle.splice.specs.Kind.{Kind}

@@ -8,8 +8,8 @@ use Rattle.column_specification.specs.declared.Packed.{Packed}
 use Rattle.column_specification.specs.declared.Packed.the-variants.{Spec, Refused}
 use Rattle.raw_column.specs.declared.Table.{Table as RawTable}
 use Rattle.raw_column.specs.declared.Opened.{Opened as RawOpened}
-use Rattle.raw_column.specs.declared.Part.{Part as RawPart}
-use Rattle.raw_column.specs.declared.Frame.{Frame as RawFrame}
+use Rattle.column_part.specs.declared.Part.{Part as RawPart}
+use Rattle.block_frame.specs.declared.Frame.{Frame as RawFrame}
 use Rattle.splice.specs.declared.Spliced.{Spliced as Edit}
 use Rattle.capi.specs.declared.NumberU64.{NumberU64}
 use Rattle.capi.specs.declared.NumberI64.{NumberI64}

@@ -1,7 +1,8 @@
 // The library's answers in the boundary's form.
 ghost use mathlib.Core.Path.{_≡_};
 ghost use Rattle.leb128.specs.Answer.{done, refused};
-ghost use Rattle.leb128.specs.Answers.{u64Of, i64Of, u32Of, writtenOf};
+ghost use Rattle.leb128.specs.Answers.{u64Of, i64Of, u32Of};
+ghost use Rattle.leb128_writer.specs.Answers.{writtenOf};
 ghost use Rattle.encoding.specs.Answers.{answerOf};
 ghost use Rattle.capi.specs.Answers.{numberU64, numberI64, numberU32, counted, specification, tableAs, openedAs, partAs, frameAs, splicedAs};
 use crate::Counted;
@@ -19,7 +20,7 @@ use encoding::Answer;
 use leb128::ParsedI64;
 use leb128::ParsedU32;
 use leb128::ParsedU64;
-use leb128::Written;
+use leb128_writer::Written;
 
 pub(crate) fn number_u64(p: ParsedU64) -> NumberU64
     ensures { λ r. ⌜ r ≡ numberU64 (u64Of p) ⌝ }
@@ -159,7 +160,7 @@ pub(crate) fn opened(o: raw_column::Opened) -> Opened
     }
 }
 
-pub(crate) fn part(p: raw_column::Part) -> Part
+pub(crate) fn part(p: column_part::Part) -> Part
     ensures { λ r. ⌜ r ≡ partAs p ⌝ }
 {
     Part {
@@ -170,7 +171,7 @@ pub(crate) fn part(p: raw_column::Part) -> Part
     }
 }
 
-pub(crate) fn frame(f: raw_column::Frame) -> Frame
+pub(crate) fn frame(f: block_frame::Frame) -> Frame
     ensures { λ r. ⌜ r ≡ frameAs f ⌝ }
 {
     Frame {

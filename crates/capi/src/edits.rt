@@ -26,7 +26,7 @@ pub extern "C" fn grundavok_splice_integer(
     ensures { λ r. ⌜ ToldEdit (OptionalSpliced integer 0 (now (block .entry)) position start end (now («new_values» .entry)) (now («new_present» .entry))
         (now (values .entry)) (now (values .exit)) (now (present .entry)) (now (present .exit)) (now (out .entry)) (now (out .exit))) r ⌝ }
 {
-    answers::spliced(splice::splice_integer(
+    answers::spliced(rle_range::splice_integer(
         block,
         position,
         start,
@@ -54,7 +54,7 @@ pub extern "C" fn grundavok_splice_delta(
     ensures { λ r. ⌜ ToldEdit (OptionalSpliced delta (pos 0) (now (block .entry)) position start end (now («new_values» .entry)) (now («new_present» .entry))
         (now (values .entry)) (now (values .exit)) (now (present .entry)) (now (present .exit)) (now (out .entry)) (now (out .exit))) r ⌝ }
 {
-    answers::spliced(splice::splice_delta(
+    answers::spliced(delta_range::splice_delta(
         block,
         position,
         start,
@@ -80,7 +80,15 @@ pub extern "C" fn grundavok_splice_boolean(
     ensures { λ r. ⌜ ToldEdit (BooleanSpliced boolean (now (block .entry)) position start end (now («new_values» .entry))
         (now (values .entry)) (now (values .exit)) (now (out .entry)) (now (out .exit))) r ⌝ }
 {
-    answers::spliced(splice::splice_boolean(block, position, start, end, new_values, values, out))
+    answers::spliced(boolean_range::splice_boolean(
+        block,
+        position,
+        start,
+        end,
+        new_values,
+        values,
+        out,
+    ))
 }
 
 #[no_mangle]
@@ -95,7 +103,7 @@ pub extern "C" fn grundavok_slots_splice_u64(
     ensures { λ _. ⌜ now (held .exit) ≡ splicedSlots 0 (spliceAnswer (length (now (held .entry))) old start end (length (now («new_values» .entry))))
         (now (held .entry)) old start end (now («new_values» .entry)) ⌝ }
 {
-    answers::answer(slots::splice_u64(held, old, start, end, new_values))
+    answers::answer(slots_u64::splice_u64(held, old, start, end, new_values))
 }
 
 #[no_mangle]
@@ -110,7 +118,7 @@ pub extern "C" fn grundavok_slots_splice_i64(
     ensures { λ _. ⌜ now (held .exit) ≡ splicedSlots (pos 0) (spliceAnswer (length (now (held .entry))) old start end (length (now («new_values» .entry))))
         (now (held .entry)) old start end (now («new_values» .entry)) ⌝ }
 {
-    answers::answer(slots::splice_i64(held, old, start, end, new_values))
+    answers::answer(slots_i64::splice_i64(held, old, start, end, new_values))
 }
 
 #[no_mangle]
@@ -125,5 +133,5 @@ pub extern "C" fn grundavok_slots_splice_u8(
     ensures { λ _. ⌜ now (held .exit) ≡ splicedSlots 0 (spliceAnswer (length (now (held .entry))) old start end (length (now («new_values» .entry))))
         (now (held .entry)) old start end (now («new_values» .entry)) ⌝ }
 {
-    answers::answer(slots::splice_u8(held, old, start, end, new_values))
+    answers::answer(slots_u8::splice_u8(held, old, start, end, new_values))
 }

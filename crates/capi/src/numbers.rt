@@ -43,14 +43,14 @@ pub extern "C" fn grundavok_nonzero_leb128_u64(s: &[u8], at: usize) -> NumberU64
 pub extern "C" fn grundavok_len_u64(v: u64) -> usize
     ensures { λ r. ⌜ r ≡ length (u64Bytes v) ⌝ }
 {
-    leb128::len_u64(v)
+    leb128_writer::len_u64(v)
 }
 
 #[no_mangle]
 pub extern "C" fn grundavok_len_i64(x: i64) -> usize
     ensures { λ r. ⌜ r ≡ length (i64Bytes x) ⌝ }
 {
-    leb128::len_i64(x)
+    leb128_writer::len_i64(x)
 }
 
 #[no_mangle]
@@ -58,7 +58,7 @@ pub extern "C" fn grundavok_put_u64(v: u64, out: &mut [u8], at: usize) -> Counte
     ensures { λ r. ⌜ r ≡ counted (putAt (now (out .entry)) at (u64Bytes v)) ⌝ }
     ensures { λ r. ⌜ now (out .exit) ≡ putOut (now (out .entry)) at (u64Bytes v) ⌝ }
 {
-    answers::written(leb128::put_u64(v, out, at))
+    answers::written(leb128_writer::put_u64(v, out, at))
 }
 
 #[no_mangle]
@@ -66,7 +66,7 @@ pub extern "C" fn grundavok_put_i64(x: i64, out: &mut [u8], at: usize) -> Counte
     ensures { λ r. ⌜ r ≡ counted (putAt (now (out .entry)) at (i64Bytes x)) ⌝ }
     ensures { λ r. ⌜ now (out .exit) ≡ putOut (now (out .entry)) at (i64Bytes x) ⌝ }
 {
-    answers::written(leb128::put_i64(x, out, at))
+    answers::written(leb128_writer::put_i64(x, out, at))
 }
 
 #[no_mangle]
@@ -74,7 +74,7 @@ pub extern "C" fn grundavok_write_u64(v: u64, out: &mut [u8]) -> Counted
     ensures { λ r. ⌜ r ≡ counted (written (now (out .entry)) (u64Bytes v)) ⌝ }
     ensures { λ r. ⌜ now (out .exit) ≡ left (written (now (out .entry)) (u64Bytes v)) (u64Bytes v) (now (out .entry)) ⌝ }
 {
-    answers::written(leb128::write_u64(v, out))
+    answers::written(leb128_writer::write_u64(v, out))
 }
 
 #[no_mangle]
@@ -82,5 +82,5 @@ pub extern "C" fn grundavok_write_i64(x: i64, out: &mut [u8]) -> Counted
     ensures { λ r. ⌜ r ≡ counted (written (now (out .entry)) (i64Bytes x)) ⌝ }
     ensures { λ r. ⌜ now (out .exit) ≡ left (written (now (out .entry)) (i64Bytes x)) (i64Bytes x) (now (out .entry)) ⌝ }
 {
-    answers::written(leb128::write_i64(x, out))
+    answers::written(leb128_writer::write_i64(x, out))
 }

@@ -1,8 +1,8 @@
 // Tables, and a column's part of its block as a start and a length: the caller has the block.
 ghost use mathlib.Core.Path.{_≡_};
 ghost use lib.ListN.{length};
-ghost use Rattle.raw_column.specs.Frame.{framed, frameOf, frameOut};
-ghost use Rattle.raw_column.specs.Part.{partAt, partFor};
+ghost use Rattle.block_frame.specs.Frame.{framed, frameOf, frameOut};
+ghost use Rattle.column_part.specs.Part.{partAt, partFor};
 ghost use Rattle.raw_column.specs.Rows.{opened};
 ghost use Rattle.raw_column.specs.Table.{parse};
 ghost use Rattle.capi.specs.Answers.{openedAs, partAs, frameAs};
@@ -22,14 +22,14 @@ pub extern "C" fn grundavok_read_table(block: &[u8]) -> Opened
 pub extern "C" fn grundavok_locate(block: &[u8], position: usize) -> Part
     ensures { λ r. ⌜ r ≡ partAs (partAt (now (block .entry)) position) ⌝ }
 {
-    answers::part(raw_column::locate(block, position))
+    answers::part(column_part::locate(block, position))
 }
 
 #[no_mangle]
 pub extern "C" fn grundavok_locate_spec(block: &[u8], spec: u32) -> Part
     ensures { λ r. ⌜ r ≡ partAs (partFor (now (block .entry)) spec) ⌝ }
 {
-    answers::part(raw_column::locate_spec(block, spec))
+    answers::part(column_part::locate_spec(block, spec))
 }
 
 #[no_mangle]
@@ -42,5 +42,5 @@ pub extern "C" fn grundavok_put_frame(
     ensures { λ r. ⌜ r ≡ frameAs (frameOf size (framed (now (block .entry)) position size (length (now (out .entry))))) ⌝ }
     ensures { λ _. ⌜ now (out .exit) ≡ frameOut size (framed (now (block .entry)) position size (length (now (out .entry)))) (now (out .entry)) ⌝ }
 {
-    answers::frame(raw_column::put_frame(block, position, size, out))
+    answers::frame(block_frame::put_frame(block, position, size, out))
 }

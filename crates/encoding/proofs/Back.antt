@@ -10,18 +10,17 @@ use native.Mathlib.Nat.{add-zero, zero-add, add-assoc}
 use lib.ListN.{length, replicate, length-append, length-replicate, length-map}
 use lib.IntN.{ℤ, pos, negsuc}
 use lib.Signed.{mag}
-use lib.Dec.{leb, eqb}
 use borrow.Author.Tests.{le-leb, ne-eqb}
-use Rattle.leb128.specs.Got.{Got, got, bad}
+use Rattle.leb128.specs.Got.{Got, got}
 use Rattle.leb128.specs.Read.{u64At, i64At}
 use Rattle.leb128.specs.Write.{u64Bytes, i64Bytes}
 use Rattle.leb128.proofs.Laws.{u64-back, i64-back, i64-short}
 use Rattle.encoding.specs.Limit.{limit}
-use Rattle.encoding.specs.Walk.{Run, Next, over, on, whole, stop, Trace, Ending, walk, onward, before, after}
+use Rattle.encoding.specs.Walk.{Run, over, on, whole, stop, Trace, Ending, walk, before, after}
 use Rattle.encoding.specs.Element.{Element}
-use Rattle.encoding.specs.Head.{Head, again, singly, gone, amiss, judged, goneHead, begun, headAt}
-use Rattle.encoding.specs.Column.{Reading, absent, present, value, Spot, spot, repeated, ahead, single, singles, opened, runAt, traceFrom, trace}
-use Rattle.encoding.specs.Stretches.{Stretch, gap, run, row, rowOf, joinNone, joinSome, stretches}
+use Rattle.encoding.specs.Head.{again, singly, gone, amiss, judged, goneHead, begun, headAt}
+use Rattle.encoding.specs.Column.{Reading, absent, present, value, Spot, spot, ahead, single, singles, opened, runAt, traceFrom, trace}
+use Rattle.encoding.specs.Stretches.{Stretch, gap, run, row, stretches}
 use Rattle.encoding.specs.Longest.{readingsIn, readingsOf, Longest}
 use Rattle.encoding.specs.Writer.{allBytes, stretchBytes, stretchesBytes, anyPresent, columnBytes}
 use Rattle.encoding.proofs.Lists.{map-append, map-replicate}

@@ -2,8 +2,8 @@
 -- to be walked (`columns`). And a run by how it begins: what the code's branches cite. Assumes nothing.
 use Prim.Native.Nat.{ℕ, zero, suc, _+_, _-_, _≤_, _<_}
 use mathlib.Core.Path.{_≡_, refl, sym, _∙_, ap, subst}
-use mathlib.Core.List.{List, [], _∷_, map}
-use mathlib.Core.Bool.{Bool, true, false, cond}
+use mathlib.Core.List.{List, []}
+use mathlib.Core.Bool.{Bool, cond}
 use native.Mathlib.Omega.{arith}
 use lib.ListN.{length, replicate, length-replicate}
 use lib.IntN.{ℤ, pos, negsuc}
@@ -13,10 +13,10 @@ use Rattle.leb128.specs.Got.{Got, got, bad}
 use Rattle.leb128.specs.Read.{u64At, i64At}
 use Rattle.leb128.proofs.Laws.{u64-next, i64-next}
 use Rattle.encoding.specs.Limit.{limit}
-use Rattle.encoding.specs.Walk.{Run, Next, over, on, off, stop, whole, cut, Trace, walk}
+use Rattle.encoding.specs.Walk.{Run, Next, over, on, off, stop, whole, cut}
 use Rattle.encoding.specs.Element.{Element}
 use Rattle.encoding.specs.Head.{Head, again, singly, gone, amiss, judged, goneHead, begun, headAt}
-use Rattle.encoding.specs.Column.{Reading, absent, present, Spot, spot, repeated, ahead, single, singles, opened, runAt, traceFrom, trace}
+use Rattle.encoding.specs.Column.{Reading, present, Spot, spot, repeated, ahead, single, singles, opened, runAt, traceFrom, trace}
 use Rattle.encoding.proofs.Lists.{cond-by}
 use Rattle.encoding.proofs.Elements.{ElementLaws}
 use Rattle.encoding.proofs.Walking.{Machine, rest}

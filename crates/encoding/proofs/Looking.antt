@@ -6,7 +6,7 @@ use mathlib.Core.List.{List, [], _∷_, _++_}
 use mathlib.Core.Option.{Option, none, some}
 use mathlib.Core.Bool.{Bool, true, false, cond}
 use native.Mathlib.Omega.{arith}
-use native.Mathlib.Nat.{add-zero, zero-add}
+use native.Mathlib.Nat.{add-zero}
 use native.Mathlib.Numerals.{add-one}
 use lib.ListN.{length, getD, take, drop, length-drop}
 use lib.Seq.{slice, slice-empty, take-suc, drop-cons, drop-drop, drop-nil, length-take-le, drop-append-le}
@@ -14,8 +14,8 @@ use lib.Dec.{eqb}
 use borrow.Author.Tests.{eq-eqb, ne-eqb}
 use Rattle.encoding.specs.Stretches.{Stretch, gap, run, row, rowOf, joinNone, joinSome, stretches}
 use Rattle.encoding.specs.Given.{given, slotList}
-use Rattle.encoding.specs.Ahead.{zeros, from, runs, joinAll, Off, Closed, Rowing, endOf, stretchOf, PieceAt, RunTo, RowTo, Paired}
-use Rattle.encoding.specs.declared.Piece.{Piece}
+use Rattle.encoding.specs.Ahead.{from, runs, joinAll, Off, Closed, Rowing, PieceAt, RunTo, RowTo, Paired}
+use Rattle.encoding.specs.Flags.{zeros}
 use Rattle.encoding.specs.declared.Piece.the-variants as piece
 
 -- ---- a given list from an index on

@@ -13,7 +13,8 @@ use mir.ValLaws.{toZ-ofZ}
 use Rattle.leb128.specs.Write.{u64Bytes, i64Bytes}
 use Rattle.encoding.specs.Element.{Element}
 use Rattle.encoding.specs.Writer.{allBytes, stretchBytes}
-use Rattle.encoding.specs.Ahead.{minus, endOf, stretchOf, PutAt}
+use Rattle.encoding.specs.Ahead.{endOf, stretchOf, PutAt}
+use Rattle.encoding.specs.Flags.{minus}
 use Rattle.encoding.specs.declared.Piece.{Piece}
 use Rattle.encoding.specs.declared.Piece.the-variants as piece
 use Rattle.encoding.proofs.Putting.{minus-some, gap-bytes, run-bytes, rows-bytes, both-fit, put-two, put-as}

@@ -10,7 +10,7 @@ use lib.ListN.{length, getD, drop, drop-of-length-le}
 use lib.Seq.{drop-cons}
 use borrow.Author.Tests.{le-leb, lt-leb, eq-eqb, ne-eqb}
 use Rattle.encoding.specs.Given.{badFlag}
-use Rattle.encoding.specs.Ahead.{zeros, anyFlag}
+use Rattle.encoding.specs.Flags.{zeros, anyFlag}
 
 module _ (p : List ℕ) (k : ℕ) where
   pub flag-good : k < length p → getD p k 0 ≤ 1 → badFlag k (drop k p) ≡ badFlag (k + 1) (drop (k + 1) p)

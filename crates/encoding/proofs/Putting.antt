@@ -11,15 +11,16 @@ use lib.ListN.{length, getD, drop, length-append}
 use lib.Seq.{sets, slice, slice-cons, slice-empty, length-slice, sets-eq}
 use lib.IntN.{pos, negsuc}
 use lib.Dec.{eqb, leb}
-use borrow.Author.Tests.{eq-eqb, ne-eqb, le-leb, lt-leb, eqb-true, leb-true}
+use borrow.Author.Tests.{le-leb, lt-leb, eqb-true, leb-true}
 use Rattle.leb128.specs.Answer.{Answer, done, refused, within, left}
 use Rattle.leb128.specs.Write.{u64Bytes, i64Bytes}
 use Rattle.encoding.specs.Limit.{limit}
 use Rattle.encoding.specs.Element.{Element}
-use Rattle.encoding.specs.Stretches.{Stretch, gap, run, row, stretches}
+use Rattle.encoding.specs.Stretches.{stretches}
 use Rattle.encoding.specs.Writer.{allBytes, stretchBytes, stretchesBytes, anyPresent, columnBytes}
-use Rattle.encoding.specs.Given.{given, slotList, badFlag, flagsJudged, listJudged, sized, Encoded}
-use Rattle.encoding.specs.Ahead.{anyFlag, minus, from, bytesFrom, endOf, stretchOf, PieceAt, PutAt}
+use Rattle.encoding.specs.Given.{slotList, badFlag, flagsJudged, listJudged, sized, Encoded}
+use Rattle.encoding.specs.Ahead.{from, bytesFrom, endOf, stretchOf, PieceAt, PutAt}
+use Rattle.encoding.specs.Flags.{anyFlag, minus}
 use Rattle.encoding.specs.declared.Piece.{Piece}
 use Rattle.encoding.specs.declared.Piece.the-variants as piece
 use Rattle.encoding.proofs.Lists.{sets-append}

@@ -1,15 +1,15 @@
 -- What was read can be written, over any element: every value of a column's trace is one that the writer takes. Assumes nothing.
 use Prim.Native.Nat.{ℕ, zero, suc, _+_, _-_, _<_}
-use mathlib.Core.Path.{_≡_, refl, subst}
+use mathlib.Core.Path.{_≡_, refl}
 use mathlib.Core.List.{List, [], _∷_, _++_, map}
-use mathlib.Core.Bool.{Bool, true, false, cond}
+use mathlib.Core.Bool.{true}
 use lib.ListN.{length, getD, replicate}
 use lib.Dec.{ltb}
 use Rattle.leb128.specs.Got.{Got, got, bad}
-use Rattle.encoding.specs.Walk.{Run, Next, over, on, off, Trace, walk, after, stop}
+use Rattle.encoding.specs.Walk.{Run, Next, over, on, off, Trace, walk, after}
 use Rattle.encoding.specs.Element.{Element}
 use Rattle.encoding.specs.Head.{Head, again, singly, gone, amiss, headAt}
-use Rattle.encoding.specs.Column.{Reading, absent, present, value, Spot, spot, repeated, ahead, single, singles, opened, runAt, traceFrom, trace}
+use Rattle.encoding.specs.Column.{Reading, absent, present, value, Spot, spot, repeated, single, singles, opened, runAt, traceFrom, trace}
 use Rattle.encoding.proofs.Lists.{cond-by}
 use Rattle.encoding.proofs.Elements.{ElementLaws}
 use Rattle.encoding.proofs.Back.{ListFits}

@@ -1,7 +1,7 @@
 -- How many bytes a list takes, over any element of at most 10: at most 11 a reading. Assumes nothing.
-use Prim.Native.Nat.{ℕ, zero, suc, _+_, _*_, _≤_, _<_}
-use mathlib.Core.Path.{_≡_, refl, ap}
-use mathlib.Core.List.{List, [], _∷_, _++_, map}
+use Prim.Native.Nat.{ℕ, suc, _*_, _≤_}
+use mathlib.Core.Path.{_≡_, ap}
+use mathlib.Core.List.{List, [], _∷_, map}
 use mathlib.Core.Option.{Option, none, some}
 use mathlib.Core.Bool.{Bool, true, false, cond}
 use native.Mathlib.Omega.{arith}
@@ -10,7 +10,6 @@ use lib.IntN.{pos, negsuc}
 use Rattle.leb128.specs.Write.{u64Bytes, i64Bytes}
 use native.Mathlib.Decide.{decLt}
 use Rattle.leb128.proofs.Laws.{u64-short, i64-short, i64-one}
-use Rattle.encoding.specs.Limit.{limit}
 use Rattle.encoding.specs.Element.{Element}
 use Rattle.encoding.specs.Stretches.{Stretch, gap, run, row, stretches}
 use Rattle.encoding.specs.Longest.{readingsIn, readingsOf, Longest}

@@ -3,31 +3,15 @@
 use Prim.Native.Nat.{ℕ, zero, suc, _+_, _-_, _≤_, _<_}
 use mathlib.Core.Path.{_≡_}
 use mathlib.Core.List.{List, [], _∷_}
-use mathlib.Core.Bool.{Bool, true, false, cond}
-use lib.Dec.{eqb}
-use lib.IntN.{ℤ, pos, negsuc}
+use mathlib.Core.Bool.{Bool, true, false}
 use lib.ListN.{length, getD, drop}
 use lib.Seq.{slice, sets}
 use Rattle.encoding.specs.Element.{Element}
-use Rattle.encoding.specs.Stretches.{Stretch, gap, run, row, joinNone, joinSome, stretches}
+use Rattle.encoding.specs.Stretches.{Stretch, gap, run, row, joinSome, stretches}
 use Rattle.encoding.specs.Writer.{stretchesBytes}
 use Rattle.encoding.specs.Given.{slotList}
 use Rattle.encoding.specs.declared.Piece.{Piece}
 use Rattle.encoding.specs.declared.Piece.the-variants as piece
-
--- how many zeros presence bytes begin with; is any of them not 0
-unfoldable pub zeros : List ℕ → ℕ
-zeros [] = 0
-zeros (b ∷ p) = cond (eqb b 0) (suc (zeros p)) 0
-
-unfoldable pub anyFlag : List ℕ → Bool
-anyFlag [] = false
-anyFlag (b ∷ p) = cond (eqb b 0) (anyFlag p) true
-
--- -n
-unfoldable pub minus : ℕ → ℤ
-minus zero = pos 0
-minus (suc n) = negsuc n
 
 -- the stretches from an index on, and their bytes
 unfoldable pub from : {A : Type 0} → (A → A → Bool) → List A → List ℕ → ℕ → List (Stretch A)

@@ -6,8 +6,6 @@ use Rattle.leb128.specs.Answer as leb
 use Rattle.encoding.specs.Head as spec
 use Rattle.encoding.specs.declared.Answer.{Answer}
 use Rattle.encoding.specs.declared.Answer.the-variants as answer
-use Rattle.encoding.specs.declared.Flags.{Flags}
-use Rattle.encoding.specs.declared.Flags.the-variants as flags
 use Rattle.encoding.specs.declared.Head.{Head}
 use Rattle.encoding.specs.declared.Head.the-variants as head
 
@@ -20,7 +18,3 @@ headOf (head.Again c q) = spec.again c q
 headOf (head.Singly c q) = spec.singly c q
 headOf (head.Gone c next) = spec.gone c next
 headOf (head.Amiss number place) = spec.amiss number place
-
-abbrev pub flagsOf : Flags → Option ℕ
-flagsOf flags.Good = none
-flagsOf (flags.Bad i) = some i

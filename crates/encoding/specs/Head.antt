@@ -2,7 +2,7 @@
 -- count: so many values follow singly. Count 0, then an unsigned count: so many absent readings."
 use Prim.Native.Nat.{ℕ, suc, _+_}
 use mathlib.Core.List.{List}
-use mathlib.Core.Bool.{Bool, cond}
+use mathlib.Core.Bool.{cond}
 use lib.Dec.{leb, eqb}
 use lib.IntN.{ℤ, pos, negsuc}
 use Rattle.leb128.specs.Got.{Got, got, bad}

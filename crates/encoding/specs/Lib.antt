@@ -2,6 +2,7 @@ pub mod Ahead
 pub mod Answers
 pub mod Column
 pub mod Element
+pub mod Flags
 pub mod Given
 pub mod Head
 pub mod Limit

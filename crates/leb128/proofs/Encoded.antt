@@ -1,10 +1,9 @@
 -- The encoding without its fuel: a final byte (`encoded-last`), or one byte and the encoding of the rest (`encoded-more`). Assumes nothing.
-use mathlib.Core.Path.{_≡_, refl, sym, ap, _∙_}
+use mathlib.Core.Path.{_≡_, refl, ap, _∙_}
 use mathlib.Core.List.{List, [], _∷_, _++_, append-assoc}
 use mathlib.Core.Bool.{Bool, true, false, cond}
 use Prim.Native.Nat.{ℕ, zero, suc, _+_, _*_, _-_, _/_, _%_, _^_, _≤_, _<_}
 use native.Mathlib.Nat.{pow-suc, zero-add}
-use native.Mathlib.Decide.{decLt}
 use native.Mathlib.Omega.{arith}
 use lib.Dec.{ltb, leb}
 use native.Mathlib.Numerals.{add-one}
@@ -17,7 +16,7 @@ use mir.Val.{SFits, toZ, ofZ}
 use mir.ValLaws.{toZ-ofZ}
 use borrow.Author.Tests.{lt-ltb, le-ltb, le-leb, lt-leb, ltb-true}
 use Rattle.leb128.specs.Write.{group, encodedFrom, encoded, i64Bytes, putAt, putOut}
-use Rattle.leb128.specs.Answer.{Answer, done, refused, within, left, written}
+use Rattle.leb128.specs.Answer.{done, refused, within, left, written}
 
 pub group-lt : (neg : Bool) (d : ℕ) → d < 128 → group neg d < 128
 group-lt true d h = omega arith

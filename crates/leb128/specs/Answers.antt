@@ -2,7 +2,6 @@
 use Prim.Native.Nat.{ℕ}
 use lib.IntN.{ℤ}
 use Rattle.leb128.specs.Got.{Got, got, bad}
-use Rattle.leb128.specs.Answer.{Answer, done, refused}
 use Rattle.leb128.specs.Digits as spec
 use Rattle.leb128.specs.declared.Digits.{Digits}
 use Rattle.leb128.specs.declared.Digits.the-variants as D
@@ -12,8 +11,6 @@ use Rattle.leb128.specs.declared.ParsedI64.{ParsedI64}
 use Rattle.leb128.specs.declared.ParsedI64.the-variants as I
 use Rattle.leb128.specs.declared.ParsedU32.{ParsedU32}
 use Rattle.leb128.specs.declared.ParsedU32.the-variants as W
-use Rattle.leb128.specs.declared.Written.{Written}
-use Rattle.leb128.specs.declared.Written.the-variants as P
 
 abbrev pub digitsOf : Digits → spec.Digits
 digitsOf (D.Whole low scale prev last count) = spec.whole low scale prev last count
@@ -30,7 +27,3 @@ i64Of (I.Refused r place) = bad r place
 abbrev pub u32Of : ParsedU32 → Got ℕ
 u32Of (W.Number v next) = got v next
 u32Of (W.Refused r place) = bad r place
-
-abbrev pub writtenOf : Written → Answer
-writtenOf (P.Next next) = done next
-writtenOf (P.Refused r place) = refused r place

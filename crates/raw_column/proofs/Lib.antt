@@ -1,7 +1,1 @@
-pub mod Blocks
-pub mod Cutting
-pub mod Framing
 pub mod Opening
-pub mod Parts
-pub mod Storing
-pub mod Tables

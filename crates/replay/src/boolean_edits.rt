@@ -102,7 +102,7 @@ fn edit(
     if out.len() < n {
         return Verdict::Malformed;
     }
-    let s = splice::splice_boolean(
+    let s = boolean_range::splice_boolean(
         block,
         aim.position,
         aim.start,

@@ -51,7 +51,11 @@ fn count(line: &[u8], c: Cursor, bytes: &mut [u8]) -> Verdict {
         return Verdict::Malformed;
     }
     let n = s.value as usize;
-    columns::judged(line, rest, boolean::count(text::between(bytes, 0, n)))
+    columns::judged(
+        line,
+        rest,
+        boolean_decoder::count(text::between(bytes, 0, n)),
+    )
 }
 
 // BYTES VALUES = NUMBER PLACE COUNT VALUES-AFTER
@@ -72,7 +76,7 @@ fn decode_in(line: &[u8], c: Cursor, s: &[u8], values: &mut [u8], k: usize) -> V
     if values.len() < k {
         return Verdict::Malformed;
     }
-    let answer = boolean::decode(s, &mut values[0..k]);
+    let answer = boolean_decoder::decode(s, &mut values[0..k]);
     decoded(line, c, answer, &values[0..k])
 }
 
@@ -94,8 +98,8 @@ fn encoded_len(form: Form, line: &[u8], c: Cursor, values: &mut [u8]) -> Verdict
 
 fn len_of(form: Form, values: &[u8]) -> Answer {
     match form {
-        Form::Plain => boolean::encoded_len(values),
-        Form::Maybe => boolean::maybe_encoded_len(values),
+        Form::Plain => boolean_encoder::encoded_len(values),
+        Form::Maybe => boolean_encoder::maybe_encoded_len(values),
     }
 }
 
@@ -146,7 +150,7 @@ fn encode_in(
 
 fn encode_as(form: Form, values: &[u8], out: &mut [u8]) -> Answer {
     match form {
-        Form::Plain => boolean::encode(values, out),
-        Form::Maybe => boolean::maybe_encode(values, out),
+        Form::Plain => boolean_encoder::encode(values, out),
+        Form::Maybe => boolean_encoder::maybe_encode(values, out),
     }
 }

@@ -182,7 +182,7 @@ fn edit(
     if out.len() < n {
         return Verdict::Malformed;
     }
-    let s = splice::splice_delta(
+    let s = delta_range::splice_delta(
         block,
         aim.position,
         aim.start,

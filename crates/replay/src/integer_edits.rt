@@ -182,7 +182,7 @@ fn edit(
     if out.len() < n {
         return Verdict::Malformed;
     }
-    let s = splice::splice_integer(
+    let s = rle_range::splice_integer(
         block,
         aim.position,
         aim.start,

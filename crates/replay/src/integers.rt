@@ -40,7 +40,7 @@ fn count(line: &[u8], c: Cursor, bytes: &mut [u8]) -> Verdict {
         return Verdict::Malformed;
     }
     let n = s.value as usize;
-    columns::judged(line, rest, rle::count(text::between(bytes, 0, n)))
+    columns::judged(line, rest, rle_decoder::count(text::between(bytes, 0, n)))
 }
 
 // BYTES VALUES PRESENT = NUMBER PLACE COUNT VALUES-AFTER PRESENT-AFTER
@@ -88,7 +88,7 @@ fn decode_in(
     if present.len() < m {
         return Verdict::Malformed;
     }
-    let answer = rle::decode(s, &mut values[0..k], &mut present[0..m]);
+    let answer = rle_decoder::decode(s, &mut values[0..k], &mut present[0..m]);
     decoded(line, c, answer, &values[0..k], &present[0..m])
 }
 
@@ -108,7 +108,10 @@ fn encoded_len(line: &[u8], c: Cursor, values: &mut [u64], present: &mut [u8]) -
     }
     let k = v.value as usize;
     let m = p.value as usize;
-    let answer = rle::encoded_len(lists::front_u64(values, k), text::between(present, 0, m));
+    let answer = rle_encoder::encoded_len(
+        lists::front_u64(values, k),
+        text::between(present, 0, m),
+    );
     columns::judged(line, rest, answer)
 }
 
@@ -156,6 +159,6 @@ fn encode_in(
     if out.len() < n {
         return Verdict::Malformed;
     }
-    let answer = rle::encode(values, present, &mut out[0..n]);
+    let answer = rle_encoder::encode(values, present, &mut out[0..n]);
     columns::written(line, c, answer, &out[0..n], recorded)
 }

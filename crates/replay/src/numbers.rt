@@ -8,7 +8,7 @@ use crate::text;
 use leb128::ParsedI64;
 use leb128::ParsedU32;
 use leb128::ParsedU64;
-use leb128::Written;
+use leb128_writer::Written;
 
 enum Reader {
     U64,
@@ -122,9 +122,9 @@ fn len(is_signed: bool, line: &[u8], c: Cursor) -> Verdict {
 
 fn len_of(is_signed: bool, value: u64) -> usize {
     if is_signed {
-        leb128::len_i64(signed::of_bits(value))
+        leb128_writer::len_i64(signed::of_bits(value))
     } else {
-        leb128::len_u64(value)
+        leb128_writer::len_u64(value)
     }
 }
 
@@ -162,10 +162,10 @@ fn write_in(w: Writer, value: u64, out: &mut [u8], n: usize, at: usize) -> Writt
 
 fn write_at(w: Writer, value: u64, out: &mut [u8], at: usize) -> Written {
     match w {
-        Writer::WriteU64 => leb128::write_u64(value, out),
-        Writer::WriteI64 => leb128::write_i64(signed::of_bits(value), out),
-        Writer::PutU64 => leb128::put_u64(value, out, at),
-        Writer::PutI64 => leb128::put_i64(signed::of_bits(value), out, at),
+        Writer::WriteU64 => leb128_writer::write_u64(value, out),
+        Writer::WriteI64 => leb128_writer::write_i64(signed::of_bits(value), out),
+        Writer::PutU64 => leb128_writer::put_u64(value, out, at),
+        Writer::PutI64 => leb128_writer::put_i64(signed::of_bits(value), out, at),
     }
 }
 

@@ -5,9 +5,9 @@ use crate::fields::Cursor;
 use crate::fields::Verdict;
 use crate::lists;
 use crate::text;
-use raw_column::Frame;
+use block_frame::Frame;
+use column_part::Part;
 use raw_column::Opened;
-use raw_column::Part;
 use raw_column::Table;
 
 // The family's calls by name.
@@ -118,8 +118,8 @@ fn column(line: &[u8], c: Cursor) -> Verdict {
 }
 
 fn column_in(line: &[u8], c: Cursor, block: &[u8], position: usize) -> Verdict {
-    let part = raw_column::locate(block, position);
-    found(line, c, part, raw_column::column(block, position))
+    let part = column_part::locate(block, position);
+    found(line, c, part, column_part::column(block, position))
 }
 
 // BLOCK SPEC = NUMBER PLACE START LEN PART
@@ -141,8 +141,8 @@ fn narrowed(n: u64) -> u32 {
 }
 
 fn bytes_in(line: &[u8], c: Cursor, block: &[u8], spec: u32) -> Verdict {
-    let part = raw_column::locate_spec(block, spec);
-    found(line, c, part, raw_column::bytes(block, spec))
+    let part = column_part::locate_spec(block, spec);
+    found(line, c, part, column_part::bytes(block, spec))
 }
 
 fn found(line: &[u8], c: Cursor, p: Part, part: &[u8]) -> Verdict {
@@ -190,7 +190,7 @@ fn put_frame_in(
     if out.len() < k {
         return Verdict::Malformed;
     }
-    let frame = raw_column::put_frame(block, position, size, &mut out[0..k]);
+    let frame = block_frame::put_frame(block, position, size, &mut out[0..k]);
     framed(line, c, frame, &out[0..k])
 }
 

@@ -11,9 +11,9 @@ use lib.Seq.{take-at}
 use borrow.Author.Tests.{le-leb, eq-eqb}
 use Rattle.leb128.specs.Answer.{Answer, done, within, left}
 use Rattle.encoding.specs.Given.{badFlag}
-use Rattle.boolean.specs.Decoded.{Decoded}
-use Rattle.boolean.specs.Turns.{boolTrace}
-use Rattle.boolean.proofs.Clean.{Clean, clean-from, clean-append, clean-take, clean-drop, read-clean}
+use Rattle.boolean_decoder.specs.Decoded.{Decoded}
+use Rattle.boolean_decoder.specs.Turns.{boolTrace}
+use Rattle.boolean_decoder.proofs.Clean.{Clean, clean-from, clean-append, clean-take, clean-drop, read-clean}
 use Rattle.slots.specs.Splice.{spliced, inSlots, splicedSlots, spliceAnswer}
 use Rattle.splice.specs.Edit.{Edited, endIn, flagsIn, givenOptional, givenBoolean, refusal, answered, slotsLeft, outLeft}
 use Rattle.splice.specs.Kinds.{boolean}
@@ -21,8 +21,8 @@ use Rattle.splice.specs.Contract.{itself, BooleanSpliced}
 use Rattle.splice.specs.Ready.{Ready, Good, Finished}
 use Rattle.splice.specs.Steps.{planned}
 use Rattle.splice.specs.declared.Spliced.{Spliced}
-use Rattle.splice.specs.declared.Plan.{Plan}
-use Rattle.splice.specs.declared.Plan.the-variants as plan
+use Rattle.splice.specs.declared.Planned.{Planned}
+use Rattle.splice.specs.declared.Planned.the-variants as plan
 use Rattle.splice.proofs.Planning.{sound-is, plan-stops, plan-ready}
 use Rattle.splice.proofs.Replacing.{splice-fits, in-loaded}
 use Rattle.splice.proofs.Editing.{newList, new-length, edit-answer, edit-output, edit-slots}
@@ -107,7 +107,7 @@ module _ (s : List ℕ) (position start end : ℕ) (new v out : List ℕ) where
       let b : eqb (length new) (length new) ≡ true = eq-eqb (length new) (length new) refl in
       rw (a, b)
 
-  module _ {p : Plan} (e : p ≡ planned 4 4 s position start end G (length new) (length v)) where
+  module _ {p : Planned} (e : p ≡ planned 4 4 s position start end G (length new) (length v)) where
     as-planned : p ≡ planned 4 4 s position start end (givenBoolean new) (length new) (length v)
     as-planned = e ∙ ap (λ (g : Answer). planned 4 4 s position start end g (length new) (length v)) given-is
 

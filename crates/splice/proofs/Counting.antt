@@ -6,8 +6,8 @@ use native.Mathlib.Omega.{arith}
 use lib.ListN.{length-map}
 use Rattle.encoding.specs.Column.{Reading, value, trace}
 use Rattle.encoding.specs.Walk.{Trace, outcomeOf, outcome}
-use Rattle.rle.specs.Word.{u64E}
-use Rattle.delta.specs.Sums.{deltaTrace}
+use Rattle.rle_decoder.specs.Word.{u64E}
+use Rattle.delta_decoder.specs.Sums.{deltaTrace}
 use Rattle.splice.specs.Kind.{values}
 use Rattle.splice.specs.Kinds.{integer, delta, boolean}
 use Rattle.splice.specs.Steps.{countAs}

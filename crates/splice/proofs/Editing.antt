@@ -10,8 +10,8 @@ use lib.ListN.{length, getD, take, drop}
 use borrow.Author.Tests.{lt-ltb, le-ltb}
 use Rattle.leb128.specs.Answer.{Answer, done}
 use Rattle.encoding.specs.Limit.{limit}
-use Rattle.raw_column.specs.Columns.{newBlock}
-use Rattle.raw_column.specs.Part.{startOf}
+use Rattle.block_frame.specs.Columns.{newBlock}
+use Rattle.column_part.specs.Part.{startOf}
 use Rattle.slots.specs.Splice.{spliced, inSlots}
 use Rattle.slots.proofs.Splicing.{length-spliced}
 use Rattle.splice.specs.Kind.{Kind}

@@ -14,11 +14,11 @@ use Rattle.encoding.specs.Head.{goneHead, begun, headAt}
 use Rattle.encoding.specs.Column.{value, repeated, single, singles, opened, runAt, traceFrom, trace}
 use Rattle.encoding.specs.Stretches.{rowOf, joinNone, joinSome, stretches}
 use Rattle.encoding.specs.Writer.{allBytes, stretchBytes, stretchesBytes, anyPresent, columnBytes}
-use Rattle.delta.specs.Sums.{heldSum, added, addUp, deltaTrace}
-use Rattle.delta.specs.Differences.{differences, deltaBytes, wideAt}
-use Rattle.boolean.specs.Turns.{counted, turnAt, boolTrace}
+use Rattle.delta_decoder.specs.Sums.{heldSum, added, addUp, deltaTrace}
+use Rattle.delta_encoder.specs.Differences.{differences, deltaBytes, wideAt}
+use Rattle.boolean_decoder.specs.Turns.{counted, turnAt, boolTrace}
 use Rattle.raw_column.specs.Table.{rowsAt, inOrder, plain, sum, parse}
-use Rattle.raw_column.specs.Columns.{cut, joined, rowsBytes, tableBytes, blockBytes, newBlock}
+use Rattle.block_frame.specs.Columns.{cut, joined, rowsBytes, tableBytes, blockBytes, newBlock}
 use Rattle.splice.specs.Edit.{accepted, edited}
 use Rattle.splice.specs.Kinds.{integer, delta, boolean}
 

@@ -15,13 +15,13 @@ use Rattle.encoding.specs.Limit.{limit}
 use Rattle.encoding.specs.Walk.{Ending, fault, outcomeOf, outcome}
 use Rattle.encoding.proofs.Lists.{cond-by}
 use Rattle.raw_column.specs.Table.{Tab, tab, sum, parse}
-use Rattle.raw_column.specs.Columns.{tableBytes, newBlock}
-use Rattle.raw_column.specs.Part.{startOf, partAt, bytesOf}
+use Rattle.block_frame.specs.Columns.{tableBytes, newBlock}
+use Rattle.column_part.specs.Part.{startOf, partAt, bytesOf}
 use Rattle.raw_column.specs.Rows.{opened}
-use Rattle.raw_column.specs.Frame.{headOf, tailOf}
-use Rattle.raw_column.proofs.Blocks.{columnsOf, columns-are, Agree, columns-agree, new-block, accepted-written, others-kept, parts-kept}
-use Rattle.raw_column.proofs.Cutting.{cut-at}
-use Rattle.raw_column.proofs.Tables.{Below, table-fills, table-back}
+use Rattle.block_frame.specs.Frame.{headOf, tailOf}
+use Rattle.block_frame.proofs.Blocks.{columnsOf, columns-are, Agree, columns-agree, new-block, accepted-written, others-kept, parts-kept}
+use Rattle.block_frame.proofs.Cutting.{cut-at}
+use Rattle.block_frame.proofs.Tables.{Below, table-fills, table-back}
 use Rattle.slots.specs.Splice.{spliced}
 use Rattle.splice.specs.Kind.{Kind}
 use Rattle.splice.specs.Edit.{Edited, stop, late, accepted, endIn, serves, finished, editList, readBy, editColumn, editIn, edited, answered, slotsLeft}

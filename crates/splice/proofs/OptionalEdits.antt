@@ -22,7 +22,7 @@ use Rattle.splice.specs.Contract.{slotIn, flagIn, OptionalSpliced}
 use Rattle.splice.specs.Ready.{Ready, Fits, Replaced, Good, Finished}
 use Rattle.splice.specs.Steps.{countAs, planned}
 use Rattle.splice.specs.declared.Spliced.{Spliced}
-use Rattle.splice.specs.declared.Plan.the-variants as plan
+use Rattle.splice.specs.declared.Planned.the-variants as plan
 use Rattle.splice.proofs.Planning.{sound-is, plan-stops, plan-ready}
 use Rattle.splice.proofs.Replacing.{held-length, in-loaded, values-of, flags-of, back, flags-good, flags-kept}
 use Rattle.splice.proofs.Counting.{values-outcome}

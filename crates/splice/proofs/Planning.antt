@@ -15,15 +15,15 @@ use Rattle.encoding.specs.Limit.{limit}
 use Rattle.encoding.specs.Given.{badFlag, flagsJudged, listJudged}
 use Rattle.encoding.specs.Walk.{Trace, Ending, sound, fault, outcomeOf, outcome}
 use Rattle.encoding.specs.Column.{trace}
-use Rattle.rle.specs.Word.{u64E}
-use Rattle.delta.specs.Sums.{deltaTrace}
-use Rattle.boolean.specs.Turns.{boolTrace}
+use Rattle.rle_decoder.specs.Word.{u64E}
+use Rattle.delta_decoder.specs.Sums.{deltaTrace}
+use Rattle.boolean_decoder.specs.Turns.{boolTrace}
 use Rattle.raw_column.specs.Table.{Tab, tab, faulty, parse}
-use Rattle.raw_column.specs.Columns.{newBlock}
-use Rattle.raw_column.specs.Part.{startOf}
+use Rattle.block_frame.specs.Columns.{newBlock}
+use Rattle.column_part.specs.Part.{startOf}
 use Rattle.raw_column.specs.declared.Opened.{Opened}
 use Rattle.raw_column.proofs.Opening.{Open, specsOf, rows-long, len-at, sum-to}
-use Rattle.raw_column.proofs.Tables.{table-fills}
+use Rattle.block_frame.proofs.Tables.{table-fills}
 use Rattle.slots.specs.Splice.{spliced}
 use Rattle.slots.proofs.Splicing.{length-spliced}
 use Rattle.splice.specs.Kind.{Kind}
@@ -31,8 +31,8 @@ use Rattle.splice.specs.Edit.{Edited, stop, endIn, serves, flagsIn, give
 use Rattle.splice.specs.Steps.{rowIn, rowFor, countAs, resultLength, resultJudged, onResult, onCount, onGiven, onRow, planned}
 use Rattle.splice.specs.Ready.{Located, Ready}
 use Rattle.splice.specs.declared.Row.the-variants as row
-use Rattle.splice.specs.declared.Plan.{Plan}
-use Rattle.splice.specs.declared.Plan.the-variants as plan
+use Rattle.splice.specs.declared.Planned.{Planned}
+use Rattle.splice.specs.declared.Planned.the-variants as plan
 
 -- ---- the type
 pub serves-not : (low high spec : ℕ) → typeOf spec < low → serves low high spec ≡ false
@@ -195,7 +195,7 @@ sound-is t {n} e = go (t .ending) e
 module _ {A : Type 0} (K : Kind A) (counts : (c : List ℕ) → countAs (K .low) c ≡ outcome (K .reads c)) (s : List ℕ) (position start end : ℕ)
     (given : Answer) (new : List A) (n : ℕ) (many : (g : ℕ) → given ≡ done g → n ≡ length new) (slots room : ℕ) where
   -- the edit that a plan stands for: the refusal; or ready, and the new readings are good
-  abbrev Follows : Plan → Edited A → Type 0
+  abbrev Follows : Planned → Edited A → Type 0
   Follows (plan.Refused number place) e = e ≡ stop number place
   Follows (plan.Ready at till old len) e = Ready K s position start end n slots at till old len × ((g : ℕ) × (given ≡ done g))
 
@@ -293,11 +293,11 @@ module _ {A : Type 0} (K : Kind A) (counts : (c : List ℕ) → countAs (K .low)
 
   pub plan-stops : {number place : ℕ} → plan.Refused number place ≡ planned (K .low) (K .high) s position start end given n slots
       → edited K s position start end given new slots room ≡ stop number place
-  plan-stops e = subst (λ (p : Plan). Follows p (edited K s position start end given new slots room)) (sym e) follows
+  plan-stops e = subst (λ (p : Planned). Follows p (edited K s position start end given new slots room)) (sym e) follows
 
   pub plan-ready : {at till old len : ℕ} → plan.Ready at till old len ≡ planned (K .low) (K .high) s position start end given n slots
       → Ready K s position start end n slots at till old len × ((g : ℕ) × (given ≡ done g))
-  plan-ready e = subst (λ (p : Plan). Follows p (edited K s position start end given new slots room)) (sym e) follows
+  plan-ready e = subst (λ (p : Planned). Follows p (edited K s position start end given new slots room)) (sym e) follows
 
 pub leb-rest : (n k m : ℕ) → k ≤ n → leb m (n - k) ≡ leb (k + m) n
 leb-rest n k m h = go (leb m (n - k)) refl

@@ -14,11 +14,11 @@ use borrow.Author.Tests.{leb-true, leb-false, le-leb, eq-eqb}
 use Rattle.leb128.specs.Answer.{Answer, done, refused, within, left}
 use Rattle.encoding.specs.Limit.{limit}
 use Rattle.encoding.specs.Given.{slotList, flagsJudged, listJudged, sized, Encoded}
-use Rattle.delta.specs.Differences.{differences, wideAt, widthJudged, deltaJudged}
-use Rattle.raw_column.specs.Columns.{newBlock}
-use Rattle.raw_column.specs.Frame.{Framed, shut, room, headOf, tailOf, framed, frameOf, frameOut}
-use Rattle.raw_column.specs.declared.Frame.{Frame}
-use Rattle.raw_column.proofs.Blocks.{frame-given, frame-refused, frame-is-block, frame-filled}
+use Rattle.delta_encoder.specs.Differences.{differences, wideAt, widthJudged, deltaJudged}
+use Rattle.block_frame.specs.Columns.{newBlock}
+use Rattle.block_frame.specs.Frame.{Framed, shut, room, headOf, tailOf, framed, frameOf, frameOut}
+use Rattle.block_frame.specs.declared.Frame.{Frame}
+use Rattle.block_frame.proofs.Blocks.{frame-given, frame-refused, frame-is-block, frame-filled}
 use Rattle.splice.specs.Kind.{Kind}
 use Rattle.splice.specs.Edit.{Edited, late, accepted, finished, refusal, acceptance, answered, outLeft}
 use Rattle.splice.specs.Ready.{HasRow, Good, putBehind, finishedAt, Finished}

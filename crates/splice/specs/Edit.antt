@@ -1,6 +1,6 @@
 -- 01, "Editing", over the kind of column. "Order: table faults; 16; 17; 18 for end below start; 8; column faults; 18 for start beyond the
 -- list; 5 for the result; 9 when slots are fewer than the longer of old and new list; 7; 10."
-use Prim.Native.Nat.{ℕ, _+_, _-_, min, max}
+use Prim.Native.Nat.{ℕ, _+_, min, max}
 use mathlib.Core.List.{List, _++_, map}
 use mathlib.Core.Option.{Option, none, some}
 use mathlib.Core.Bool.{Bool, cond, _&&_}
@@ -9,11 +9,11 @@ use lib.ListN.{length, getD, take, drop}
 use Rattle.leb128.specs.Answer.{Answer, done, refused}
 use Rattle.column_specification.specs.Specification.{typeOf}
 use Rattle.encoding.specs.Limit.{limit}
-use Rattle.encoding.specs.Walk.{Trace, outcome}
+use Rattle.encoding.specs.Walk.{outcome}
 use Rattle.encoding.specs.Given.{badFlag}
 use Rattle.raw_column.specs.Table.{Tab, tab, faulty, parse}
-use Rattle.raw_column.specs.Columns.{newBlock}
-use Rattle.raw_column.specs.Part.{startOf}
+use Rattle.block_frame.specs.Columns.{newBlock}
+use Rattle.column_part.specs.Part.{startOf}
 use Rattle.raw_column.specs.Rows.{noTable, opened}
 use Rattle.slots.specs.Splice.{spliced, inSlots}
 use Rattle.splice.specs.Kind.{Kind}

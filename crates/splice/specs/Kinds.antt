@@ -4,11 +4,11 @@ use mathlib.Core.Option.{Option, none}
 use lib.IntN.{ℤ, pos}
 use Rattle.encoding.specs.Column.{trace}
 use Rattle.encoding.specs.Writer.{columnBytes}
-use Rattle.rle.specs.Word.{u64E}
-use Rattle.delta.specs.Sums.{deltaTrace}
-use Rattle.delta.specs.Differences.{differences, deltaBytes, wideAt}
-use Rattle.boolean.specs.Turns.{boolTrace}
-use Rattle.boolean.specs.Writer.{boolBytes}
+use Rattle.rle_decoder.specs.Word.{u64E}
+use Rattle.delta_decoder.specs.Sums.{deltaTrace}
+use Rattle.delta_encoder.specs.Differences.{differences, deltaBytes, wideAt}
+use Rattle.boolean_decoder.specs.Turns.{boolTrace}
+use Rattle.boolean_encoder.specs.Writer.{boolBytes}
 use Rattle.splice.specs.Kind.{Kind, values}
 
 abbrev pub integer : Kind (Option ℕ)

@@ -10,8 +10,8 @@ use Rattle.encoding.specs.Limit.{limit}
 use Rattle.encoding.specs.Walk.{outcome}
 use Rattle.encoding.specs.Given.{badFlag, slotList}
 use Rattle.raw_column.specs.Table.{Tab, tab, faulty, parse}
-use Rattle.raw_column.specs.Columns.{newBlock}
-use Rattle.raw_column.specs.Part.{startOf}
+use Rattle.block_frame.specs.Columns.{newBlock}
+use Rattle.column_part.specs.Part.{startOf}
 use Rattle.slots.specs.Splice.{spliced, inSlots}
 use Rattle.splice.specs.Kind.{Kind}
 use Rattle.splice.specs.Edit.{Edited, stop, serves, finished, answered, outLeft}

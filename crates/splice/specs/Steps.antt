@@ -1,5 +1,5 @@
--- What the private functions before the slots are filled answer: the checks, by numbers alone. No public promise cites them; that they are those
--- of an edit is proved (proofs/Planning.antt).
+-- The checks before a slot is filled, by numbers alone, as `plan` answers them to the edits. That they are those of an edit (Edit.antt) is proved
+-- (proofs/Planning.antt); no promise of an edit cites them.
 use Prim.Native.Nat.{ℕ, _+_, _-_, max}
 use mathlib.Core.List.{List}
 use mathlib.Core.Bool.{cond}
@@ -9,16 +9,16 @@ use Rattle.leb128.specs.Answer.{Answer, done, refused}
 use Rattle.encoding.specs.Limit.{limit}
 use Rattle.encoding.specs.Column.{trace}
 use Rattle.encoding.specs.Walk.{outcome}
-use Rattle.rle.specs.Word.{u64E}
-use Rattle.delta.specs.Sums.{deltaTrace}
-use Rattle.boolean.specs.Turns.{boolTrace}
+use Rattle.rle_decoder.specs.Word.{u64E}
+use Rattle.delta_decoder.specs.Sums.{deltaTrace}
+use Rattle.boolean_decoder.specs.Turns.{boolTrace}
 use Rattle.raw_column.specs.Table.{Tab, tab, faulty, parse}
-use Rattle.raw_column.specs.Part.{startOf}
+use Rattle.column_part.specs.Part.{startOf}
 use Rattle.splice.specs.Edit.{endIn, serves}
 use Rattle.splice.specs.declared.Row.{Row}
 use Rattle.splice.specs.declared.Row.the-variants as row
-use Rattle.splice.specs.declared.Plan.{Plan}
-use Rattle.splice.specs.declared.Plan.the-variants as plan
+use Rattle.splice.specs.declared.Planned.{Planned}
+use Rattle.splice.specs.declared.Planned.the-variants as plan
 
 -- table faults; 16; 17; 18 for end below start
 abbrev pub rowIn : ℕ → ℕ → ℕ → ℕ → ℕ → Tab → Row
@@ -49,24 +49,24 @@ resultJudged old start end new slots =
     (cond (ltb slots (max old (resultLength old start end new))) (refused 9 0)
     (done (resultLength old start end new))))
 
-abbrev pub onResult : ℕ → ℕ → ℕ → Answer → Plan
+abbrev pub onResult : ℕ → ℕ → ℕ → Answer → Planned
 onResult at till old (done n) = plan.Ready at till old n
 onResult at till old (refused number place) = plan.Refused number place
 
-abbrev pub onCount : ℕ → ℕ → ℕ → ℕ → ℕ → ℕ → Answer → Plan
+abbrev pub onCount : ℕ → ℕ → ℕ → ℕ → ℕ → ℕ → Answer → Planned
 onCount at till start end new slots (done old) = onResult at till old (resultJudged old start end new slots)
 onCount at till start end new slots (refused number place) = plan.Refused number place
 
-abbrev pub columnPlanned : ℕ → List ℕ → ℕ → ℕ → ℕ → ℕ → ℕ → ℕ → Plan
+abbrev pub columnPlanned : ℕ → List ℕ → ℕ → ℕ → ℕ → ℕ → ℕ → ℕ → Planned
 columnPlanned kind s at till start end new slots = onCount at till start end new slots (countAs kind (take (till - at) (drop at s)))
 
-abbrev pub onGiven : ℕ → List ℕ → ℕ → ℕ → ℕ → ℕ → ℕ → ℕ → Answer → Plan
+abbrev pub onGiven : ℕ → List ℕ → ℕ → ℕ → ℕ → ℕ → ℕ → ℕ → Answer → Planned
 onGiven kind s at till start end new slots (done g) = columnPlanned kind s at till start end new slots
 onGiven kind s at till start end new slots (refused number place) = plan.Refused number place
 
-abbrev pub onRow : ℕ → List ℕ → ℕ → ℕ → Answer → ℕ → ℕ → Row → Plan
+abbrev pub onRow : ℕ → List ℕ → ℕ → ℕ → Answer → ℕ → ℕ → Row → Planned
 onRow kind s start end given new slots (row.At at till) = onGiven kind s at till start end new slots given
 onRow kind s start end given new slots (row.Refused number place) = plan.Refused number place
 
-abbrev pub planned : ℕ → ℕ → List ℕ → ℕ → ℕ → ℕ → Answer → ℕ → ℕ → Plan
+abbrev pub planned : ℕ → ℕ → List ℕ → ℕ → ℕ → ℕ → Answer → ℕ → ℕ → Planned
 planned low high s position start end given new slots = onRow low s start end given new slots (rowFor low high s position start end)

@@ -3,8 +3,8 @@ use mathlib.Core.Path.{_≡_, _∙_, ap}
 use Prim.Native.Nat.{ℕ, suc, _+_, _-_, _^_, _<_}
 use native.Mathlib.Omega.{arith}
 use lib.IntN.{ℤ, pos, negsuc}
-use Rattle.delta.specs.Sofar.{sumOf}
-use Rattle.delta.proofs.Kept.{sum-low, sum-high}
+use Rattle.delta_decoder.specs.Sofar.{sumOf}
+use Rattle.delta_decoder.proofs.Kept.{sum-low, sum-high}
 use Rattle.tablet.specs.Kept.{keptOf}
 
 pub meant-pos : (n : ℕ) → sumOf (keptOf (pos n)) ≡ pos n

@@ -1,4 +1,2 @@
 -- Laws that several functions' proofs cite.
-pub mod Digits
 pub mod Keeping
-pub mod Pictures

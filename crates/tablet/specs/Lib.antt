@@ -1,3 +1,1 @@
 pub mod Kept
-pub mod Picture
-pub mod Text

@@ -30,7 +30,7 @@ fn of_spliced(s: Spliced) -> Edited {
 fn unsigned(block: &[u8], r: Range, new: &[u64], new_present: &[u8], out: &mut [u8]) -> Edited {
     let mut values = rooms::unsigned();
     let mut present = rooms::flags();
-    of_spliced(splice::splice_integer(
+    of_spliced(rle_range::splice_integer(
         block,
         r.position,
         r.start,
@@ -46,7 +46,7 @@ fn unsigned(block: &[u8], r: Range, new: &[u64], new_present: &[u8], out: &mut [
 fn signed(block: &[u8], r: Range, new: &[i64], new_present: &[u8], out: &mut [u8]) -> Edited {
     let mut values = rooms::signed();
     let mut present = rooms::flags();
-    of_spliced(splice::splice_delta(
+    of_spliced(delta_range::splice_delta(
         block,
         r.position,
         r.start,
@@ -75,7 +75,7 @@ fn yes_no(block: &[u8], r: Range, new: &[u64], out: &mut [u8]) -> Edited {
     let mut values = rooms::flags();
     let mut flags = rooms::flags();
     load::narrow_all(new, &mut flags);
-    of_spliced(splice::splice_boolean(
+    of_spliced(boolean_range::splice_boolean(
         block,
         r.position,
         r.start,

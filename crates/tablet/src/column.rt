@@ -1,13 +1,12 @@
 // One column of a file, as a command names it: FILE COLUMN.
 use crate::cut;
 use crate::files;
-use crate::numbers;
-use crate::numbers::Decimal;
 use crate::pen;
 use crate::pen::Desk;
 use crate::refusals;
 use crate::text::between;
 use crate::words;
+use decimal::Decimal;
 
 // A column that the table has: its position, its specification, and where it begins and ends in its block, which has `size` bytes; or a
 // refusal's number and place. The number is 0 where there is none.
@@ -55,7 +54,7 @@ fn spec_at(block: &[u8], position: usize) -> u32 {
 
 // The column at a position of a block.
 pub fn locate(block: &[u8], position: usize) -> Column {
-    let part = raw_column::locate(block, position);
+    let part = column_part::locate(block, position);
     Column {
         number: part.number,
         place: part.place,
@@ -72,7 +71,7 @@ pub const MISSING: usize = usize::MAX;
 
 // A position, a start or an end as a number; MISSING where the word is none, which is said.
 pub fn place(word: &[u8], what: &[u8], desk: Desk) -> usize {
-    if let Decimal::Value(n) = numbers::decimal_of(word) {
+    if let Decimal::Value(n) = decimal::decimal_of(word) {
         return n as usize;
     }
     let p = pen::text(pen::text(pen::on(desk.notes), b"tablet: "), what);

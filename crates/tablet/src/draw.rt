@@ -11,13 +11,15 @@ use crate::numbers;
 use crate::pen;
 use crate::pen::Desk;
 use crate::pen::Pen;
-use crate::picture::Stretch;
 use crate::rooms;
 use crate::svg;
 use crate::terminal;
 use crate::text::between;
 use crate::words;
+use decimal::HALF;
 use encoding::Answer;
+use picture::Scale;
+use picture::Stretch;
 
 // The column that is drawn: its position, its specification and its length. Where it was not found, the length is the block's.
 pub struct Subject {
@@ -69,6 +71,15 @@ fn total(all: Stretch) -> usize {
     } else {
         usize::MAX
     }
+}
+
+// The scale for all of n readings, over so many places at most. A row begins at the depth 0; a yes and a no have a row each.
+pub fn scale_for(all: Stretch, kind: Kind, n: usize, width: usize) -> Scale {
+    if kinds::is_yes_no(kind) {
+        return picture::scale_for(0, 1, 0, n, width);
+    }
+    let zero = if kinds::is_signed(kind) { HALF } else { 0 };
+    picture::scale_for(all.low, all.high, zero, n, width)
 }
 
 // What the picture is drawn on: the terminal, where no file is named, or the file's part file; -1 where that cannot be.

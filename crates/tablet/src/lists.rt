@@ -1,12 +1,12 @@
 // Lists of readings as they are given: readings with a comma or a word's end between two, each with a count behind an x or not.
 use crate::kinds::Kind;
 use crate::numbers;
-use crate::numbers::Decimal;
-use crate::numbers::Reading;
 use crate::text::NO_ROOM;
 use crate::text::after;
 use crate::text::between;
 use crate::text::find;
+use decimal::Decimal;
+use decimal::Reading;
 
 // What is wrong with a reading.
 pub const NO_NUMBER: u8 = 1;
@@ -71,7 +71,7 @@ fn read_item(s: &[u8], kind: Kind) -> Item {
     if x == s.len() {
         return item_of(r, 1);
     }
-    match numbers::decimal_of(between(s, after(x), s.len())) {
+    match decimal::decimal_of(between(s, after(x), s.len())) {
         Decimal::Value(times) => item_of(r, times as usize),
         Decimal::NoNumber => item_with(NO_NUMBER, 0, 0, 0),
         Decimal::TooLarge => item_with(TOO_MANY, 0, 0, 0),

@@ -2,19 +2,19 @@
 ghost use mathlib.Core.Path.{_≡_};
 ghost use Prim.Native.Nat.{_<_, _^_};
 ghost use lib.Signed.{mag};
-ghost use Rattle.delta.specs.Sofar.{sumOf};
+ghost use Rattle.delta_decoder.specs.Sofar.{sumOf};
 ghost use Rattle.tablet.specs.Kept.{keptOf};
 use crate::kinds::Kind;
-use crate::numbers::HALF;
 use crate::rooms;
+use decimal::HALF;
 use encoding::Answer;
 
 // How many readings a column has, or its first fault.
 pub fn count(part: &[u8], kind: Kind) -> Answer {
     match kind {
-        Kind::Signed => delta::count(part),
-        Kind::Unsigned => rle::count(part),
-        Kind::YesNo => boolean::count(part),
+        Kind::Signed => delta_decoder::count(part),
+        Kind::Unsigned => rle_decoder::count(part),
+        Kind::YesNo => boolean_decoder::count(part),
         Kind::Unserved => Answer::Refused(17, 0),
     }
 }
@@ -105,13 +105,13 @@ fn widen_all(values: &mut [u64], present: &mut [u8]) {
 
 fn load_signed(part: &[u8], values: &mut [u64], present: &mut [u8]) -> Answer {
     let mut signed = rooms::signed();
-    let answer = delta::decode(part, &mut signed, present);
+    let answer = delta_decoder::decode(part, &mut signed, present);
     keep_all(&signed, values);
     answer
 }
 
 fn load_flags(part: &[u8], values: &mut [u64], present: &mut [u8]) -> Answer {
-    let answer = boolean::decode(part, present);
+    let answer = boolean_decoder::decode(part, present);
     widen_all(values, present);
     answer
 }
@@ -120,7 +120,7 @@ fn load_flags(part: &[u8], values: &mut [u64], present: &mut [u8]) -> Answer {
 pub fn load(part: &[u8], kind: Kind, values: &mut [u64], present: &mut [u8]) -> Answer {
     match kind {
         Kind::Signed => load_signed(part, values, present),
-        Kind::Unsigned => rle::decode(part, values, present),
+        Kind::Unsigned => rle_decoder::decode(part, values, present),
         Kind::YesNo => load_flags(part, values, present),
         Kind::Unserved => Answer::Refused(17, 0),
     }

@@ -17,7 +17,6 @@ mod load;
 mod make;
 mod numbers;
 mod pen;
-mod picture;
 mod read;
 mod refusals;
 mod rooms;

@@ -7,8 +7,6 @@ use crate::files;
 use crate::given;
 use crate::help;
 use crate::kinds;
-use crate::numbers;
-use crate::numbers::Decimal;
 use crate::pen;
 use crate::pen::Desk;
 use crate::refusals;
@@ -20,7 +18,8 @@ use crate::words;
 use column_specification::ColumnSpec;
 use column_specification::ColumnType;
 use column_specification::Packed;
-use leb128::Written;
+use decimal::Decimal;
+use leb128_writer::Written;
 
 // The block is left as it is, and what is wrong was said.
 const STOPPED: usize = usize::MAX;
@@ -72,7 +71,7 @@ fn spec_of(text: &[u8]) -> Spec {
     }
     of_type(
         between(text, 0, colon),
-        numbers::decimal_of(between(text, after(colon), equals)),
+        decimal::decimal_of(between(text, after(colon), equals)),
     )
 }
 
@@ -92,7 +91,7 @@ fn say_refused(text: &[u8], number: u8, desk: Desk) {
 
 // A number behind those that are there.
 fn put(block: &mut [u8], at: usize, n: u64) -> usize {
-    match leb128::put_u64(n, block, at) {
+    match leb128_writer::put_u64(n, block, at) {
         Written::Next(next) => next,
         Written::Refused(_, _) => STOPPED,
     }

@@ -7,11 +7,10 @@ use crate::kinds::Kind;
 use crate::numbers;
 use crate::pen;
 use crate::pen::Pen;
-use crate::picture;
-use crate::picture::Scale;
-use crate::picture::Stretch;
 use crate::refusals;
 use crate::text::byte_at;
+use picture::Scale;
+use picture::Stretch;
 
 // How many places across the picture has at most.
 const WIDTH: usize = 680;
@@ -279,7 +278,7 @@ fn lowest(kind: Kind, high: u64) -> u64 {
 }
 
 fn picture_of(p: Pen, kind: Kind, all: Stretch, values: &[u64], present: &[u8]) -> Pen {
-    let c = picture::scale_for(all, kind, values.len(), WIDTH);
+    let c = draw::scale_for(all, kind, values.len(), WIDTH);
     let h = height_for(c.base, lowest(kind, all.high), kind);
     let q = drawing(levels(p, kind, c, h), kind, c, h, values, present);
     let r = gaps(q, c, values, present);

@@ -1,6 +1,4 @@
 // The picture in the terminal: a row a step of depth, a place across for one or more readings. Depth grows downward, as in clay.
-ghost use mathlib.Core.Path.{_≡_};
-ghost use Rattle.tablet.specs.Picture.{shadeOf};
 use crate::draw;
 use crate::draw::Subject;
 use crate::kinds;
@@ -8,12 +6,11 @@ use crate::kinds::Kind;
 use crate::numbers;
 use crate::pen;
 use crate::pen::Pen;
-use crate::picture;
-use crate::picture::Scale;
-use crate::picture::Stretch;
 use crate::refusals;
 use crate::text::after;
 use crate::text::between;
+use picture::Scale;
+use picture::Stretch;
 
 const WIDTH: usize = 72;
 
@@ -26,32 +23,6 @@ fn cell(places: usize) -> usize {
         return 2;
     }
     1
-}
-
-// What stands at a place of a row: 0 air or a gap, 1 the trace of readings, 2 the trace where some are absent, 3 clay below it. The trace
-// goes from the row `top` to the row `bottom`; `here` and `gone` are how many readings are present and absent.
-fn shade(row: usize, top: usize, bottom: usize, here: usize, gone: usize) -> usize
-    ensures { λ r. ⌜ r ≡ shadeOf row top bottom here gone ⌝ }
-{
-    if here == 0 {
-        return 0;
-    }
-    if row < top {
-        return 0;
-    }
-    if bottom < row {
-        return 3;
-    }
-    if gone == 0 {
-        return 1;
-    }
-    2
-}
-
-fn shade_at(c: Scale, row: usize, s: Stretch) -> usize {
-    let top = picture::row_of(s.low, c.base, c.step);
-    let bottom = picture::row_of(s.high, c.base, c.step);
-    shade(row, top, bottom, s.here, s.gone)
 }
 
 // A shade, so many characters of three bytes each wide; 4 is the ruler.
@@ -87,7 +58,7 @@ fn row(p: Pen, kind: Kind, c: Scale, row: usize, values: &[u64], present: &[u8])
     let mut x = 0;
     while x < c.places {
         let s = picture::stretch_at(values, present, c.per, x);
-        q = sign(q, clay(kind, shade_at(c, row, s)), n);
+        q = sign(q, clay(kind, picture::shade_at(c, row, s)), n);
         x += 1;
     }
     pen::text(q, b"\n")
@@ -183,7 +154,7 @@ fn label_width(kind: Kind, base: u64, high: u64) -> usize {
 }
 
 fn picture_of(p: Pen, kind: Kind, all: Stretch, values: &[u64], present: &[u8]) -> Pen {
-    let c = picture::scale_for(all, kind, values.len(), WIDTH);
+    let c = draw::scale_for(all, kind, values.len(), WIDTH);
     let width = label_width(kind, c.base, all.high);
     let q = rows(p, kind, c, width, values, present);
     let r = ruler(pen::blanks(q, width), c, values, present);

@@ -16,11 +16,6 @@ pub fn between(s: &[u8], a: usize, e: usize) -> &[u8] {
     &s[a..e]
 }
 
-// The part of s from a on.
-pub fn from(s: &[u8], a: usize) -> &[u8] {
-    between(s, a, s.len())
-}
-
 // The index of the first `b` from `from` on, or the length where there is none.
 pub fn find(s: &[u8], from: usize, b: u8) -> usize {
     let mut i = from;

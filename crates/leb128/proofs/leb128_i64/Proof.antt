@@ -4,15 +4,13 @@ use Prim.Native.Nat.{_+_, _≤_, min}
 use borrow.Author.Needs.{needs}
 use native.Mathlib.Omega.{arith}
 use lib.ListN.{length, drop}
-use Rattle.leb128.specs.Digits.{Digits, whole, digits}
+use Rattle.leb128.specs.Digits.{whole, digits}
 use Rattle.leb128.specs.Answers.{digitsOf}
 use Rattle.leb128.specs.Read.{i64At}
 use Rattle.leb128.specs.Sound.{Sound}
 use Rattle.leb128.proofs.Sound.{whole-sound, whole-place}
 use Rattle.leb128.proofs.leb128_i64.Statement.{statement}
 use Rattle.leb128.proofs.leb128_i64.Tie as tie
-use Rattle.leb128.proofs.leb128_i64.Reads as reads
-use Rattle.leb128.proofs.leb128_i64.Lts as lts
 
 digits-at-requires : tie.Need-digits-at-requires
 digits-at-requires c κs = search needs

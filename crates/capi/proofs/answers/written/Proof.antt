@@ -1,6 +1,6 @@
 -- `capi::answers::written` meets its contract. Assumes nothing.
 use mathlib.Core.Path.{sym, ap, _∙_}
-use Rattle.leb128.specs.Answers.{writtenOf}
+use Rattle.leb128_writer.specs.Answers.{writtenOf}
 use Rattle.capi.specs.Answers.{counted}
 use borrow.Author.Needs.{needs}
 use Rattle.capi.proofs.answers.written.Statement.{statement}

@@ -1,5 +1,4 @@
 -- `replay::signed::to_bits` meets its contract. Assumes nothing.
-use mathlib.Core.Path.{_∙_}
 use Prim.Native.Nat.{_-_}
 use native.Mathlib.Omega.{arith}
 use Rattle.replay.proofs.Bits.{twice, below, above, bits-fit}

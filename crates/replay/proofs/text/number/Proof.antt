@@ -5,9 +5,6 @@ use lib.ListN.{length}
 use Rattle.replay.proofs.Digits.{longer-value, Spelt, spelt-none, spelt-more, spelt-all}
 use Rattle.replay.proofs.text.number.Statement.{statement}
 use Rattle.replay.proofs.text.number.Tie as tie
-use Rattle.replay.proofs.text.number.Reads as reads
-use Rattle.replay.proofs.text.number.Lts as lts
-use Rattle.replay.proofs.text.with_digit.Reads as with-digit-reads
 
 abbrev Inv-loop : tie.InvT-loop
 Inv-loop text value₀ i₀ value i = Spelt text i value

@@ -2,7 +2,7 @@
 use mathlib.Core.Path.{_≡_, sym, _∙_, ap}
 use native.Mathlib.Omega.{arith}
 use Prim.Native.Nat.{suc, _-_, _+_, _^_}
-use Rattle.delta.proofs.Kept.{neg-is, pos-is}
+use Rattle.delta_decoder.proofs.Kept.{neg-is, pos-is}
 use Rattle.tablet.specs.Kept.{keptOf}
 use borrow.Author.Needs.{needs}
 use Rattle.tablet.proofs.load.kept.Statement.{statement}

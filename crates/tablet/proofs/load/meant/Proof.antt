@@ -4,7 +4,7 @@ use Prim.Native.Nat.{suc, _-_, _^_}
 use native.Mathlib.Omega.{arith}
 use lib.IntN.{negsuc}
 use Rattle.leb128.proofs.Twos.{up, down}
-use Rattle.delta.proofs.Kept.{sum-low, sum-high}
+use Rattle.delta_decoder.proofs.Kept.{sum-low, sum-high}
 use borrow.Author.Needs.{needs}
 use Rattle.tablet.proofs.load.meant.Statement.{statement}
 use Rattle.tablet.proofs.load.meant.Tie as tie

@@ -1,0 +1,5 @@
+pub mod Blocks
+pub mod Cutting
+pub mod Framing
+pub mod Storing
+pub mod Tables

@@ -1,0 +1,3 @@
+pub mod Chosen
+pub mod Columns
+pub mod Frame

@@ -1,0 +1,62 @@
+-- `boolean_decoder::count` meets its contract: each count owes the same answer as the start. Assumes nothing.
+use Prim.Native.Nat.{_-_, _≤_}
+use mathlib.Core.Path.{_≡_, refl, sym, _∙_}
+use native.Mathlib.Omega.{arith}
+use borrow.Author.Needs.{needs}
+use lib.ListN.{length}
+use Rattle.encoding.specs.Limit.{limit}
+use Rattle.encoding.proofs.Via.{via}
+use Rattle.encoding.proofs.Walking.{owes, owes-on, owes-off}
+use Rattle.boolean_decoder.specs.Answers.{stepOf}
+use Rattle.boolean_decoder.specs.Turns.{turn}
+use Rattle.boolean_decoder.proofs.Turning.{turns, turned, owes-trace, owes-end}
+use Rattle.boolean_decoder.proofs.count.Statement.{statement}
+use Rattle.boolean_decoder.proofs.count.Tie as tie
+
+abbrev Inv-loop : tie.InvT-loop
+Inv-loop s at₀ had₀ flag₀ at had flag = (had ≤ limit) × (flag ≤ 1) × (owes (turns s) (turn 0 0 0) ≡ owes (turns s) (turn at had flag))
+
+abbrev μ-loop : tie.MeasureT-loop
+μ-loop s at₀ had₀ flag₀ at had flag = length s - at
+
+loop-holds : tie.Need-loop-holds Inv-loop μ-loop
+loop-holds c = (omega arith, omega arith, refl)
+
+turn-at-requires : tie.Need-turn-at-requires Inv-loop μ-loop
+turn-at-requires c κs = (c .loop-test .taken, c .before .loop .inv .0, c .before .loop .inv .1)
+
+enum-known-next : tie.Need-enum-known-next Inv-loop μ-loop
+enum-known-next c = search needs
+
+loop-less : tie.Need-loop-less Inv-loop μ-loop
+loop-less c = let h = turned _ _ _ (via stepOf (c .before .before .before .turn-at .ensures) (c .before .next .given .1)) in omega (arith, h .ahead, c .before .before .before .before .loop-test .taken)
+
+loop-again : tie.Need-loop-again Inv-loop μ-loop
+loop-again c =
+    let e = via stepOf (c .before .before .before .turn-at .ensures) (c .before .next .given .1) in
+    let h = turned _ _ _ e in
+    (h .capped, omega (arith, h .other), c .before .before .before .before .before .loop .inv .2 ∙ owes-on (turns _) _ _ e)
+
+enum-known-n : tie.Need-enum-known-n Inv-loop μ-loop
+enum-known-n c = search needs
+
+returns : tie.Need-returns Inv-loop μ-loop
+returns c = sym (owes-trace _ ∙ c .before .before .before .before .before .loop .inv .2 ∙ owes-off (turns _) _ _ _ (via stepOf (c .before .before .before .turn-at .ensures) (c .before .n .given .1)))
+
+returns-2 : tie.Need-returns-2 Inv-loop μ-loop
+returns-2 c = sym (owes-trace _ ∙ c .before .loop .inv .2 ∙ owes-end _ _ (c .loop-test .left))
+
+pub count-spec : {M : Type 1} → statement M
+count-spec =
+    tie.close
+    (tie.spec
+    Inv-loop
+    μ-loop
+    loop-holds
+    turn-at-requires
+    enum-known-next
+    loop-less
+    loop-again
+    enum-known-n
+    returns
+    returns-2)

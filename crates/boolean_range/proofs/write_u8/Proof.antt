@@ -1,0 +1,56 @@
+-- `boolean_range::write_u8` meets its contract: its size, and then the block. Assumes nothing.
+use mathlib.Core.Path.{_∙_, sym, ap}
+use mathlib.Core.Option.{none}
+use denote.Ref.{now}
+use Rattle.encoding.specs.Answers.{answerOf}
+use Rattle.encoding.specs.Given.{sized}
+use Rattle.encoding.proofs.Via.{via}
+use Rattle.splice.specs.Kinds.{boolean}
+use Rattle.splice.proofs.Writing.{good-judged, size-done, finish-refused}
+use borrow.Author.Needs.{needs}
+use Rattle.boolean_range.proofs.write_u8.Statement.{statement}
+use Rattle.boolean_range.proofs.write_u8.Tie as tie
+
+encoded-len-requires : tie.Need-encoded-len-requires
+encoded-len-requires c κs = search needs
+
+enum-known-size : tie.Need-enum-known-size
+enum-known-size c = search needs
+
+put-u8-requires : tie.Need-put-u8-requires
+put-u8-requires c κs =
+    let W = boolean .writes (now (c .before .before .before .before .before .before .before .before .args .values)) in
+    let e = sym (ap (sized W) (good-judged (c .before .before .before .before .before .before .before .before .pre .1))) ∙ via answerOf (c .before .before .before .before .encoded-len .ensures) (c .before .before .size .given .1) in
+    (c .before .before .before .before .before .before .before .before .pre .0, (c .before .before .before .before .before .before .before .before .pre .1, size-done W _ none e .0))
+
+enum-known-n : tie.Need-enum-known-n
+enum-known-n c = search needs
+
+refused-requires : tie.Need-refused-requires
+refused-requires c κs = search needs
+
+same-length : tie.Need-same-length
+same-length c = search needs
+
+returns : tie.Need-returns
+returns c = c .before .before .put-u8 .ensures
+
+returns-2 : tie.Need-returns-2
+returns-2 c =
+    let a = c .before .before .before .before .before .before .before .before .args in
+    let W = boolean .writes (now (a .values)) in
+    let e = sym (ap (sized W) (good-judged (c .before .before .before .before .before .before .before .before .pre .1))) ∙ via answerOf (c .before .before .before .before .encoded-len .ensures) (c .before .before .n .given .1) in
+    finish-refused boolean (c .before .before .before .before .before .before .before .before .pre .0) (now (a .values)) (now (a .out)) _ e (c .refused .ensures)
+
+pub write-u8-spec : {M : Type 1} → statement M
+write-u8-spec =
+    tie.close
+    (tie.spec
+    encoded-len-requires
+    enum-known-size
+    put-u8-requires
+    enum-known-n
+    refused-requires
+    same-length
+    returns
+    returns-2)

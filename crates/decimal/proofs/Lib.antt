@@ -1,0 +1,3 @@
+-- Laws that several functions' proofs cite.
+pub mod Digits
+pub mod Signs

@@ -1,0 +1,4 @@
+pub mod Deltas
+pub mod DifferenceLaws
+pub mod Kept
+pub mod Summing

@@ -1,0 +1,68 @@
+-- `delta_decoder::fill_repeat` meets its contract: the difference was read, or its refusal is passed on. Assumes nothing.
+use mathlib.Core.Path.{sym}
+use lib.IntN.{pos}
+use mir.Syntax.{w64}
+use mir.Val.{SFits}
+use mir.ValLaws.{toZ-ofZ}
+use borrow.Author.Needs.{needs}
+use Rattle.leb128.specs.Answers.{i64Of}
+use Rattle.encoding.specs.Slots.{slotOf, flagOf}
+use Rattle.encoding.proofs.Via.{via}
+use Rattle.encoding.proofs.Walking.{next-eq, readings-eq}
+use Rattle.encoding.proofs.Columns.{repeated-bad}
+use Rattle.encoding.proofs.Filling.{wrote-eq, wrote-none}
+use Rattle.delta_decoder.proofs.Summing.{summing-end}
+use Rattle.delta_decoder.proofs.fill_repeat.Statement.{statement}
+use Rattle.delta_decoder.proofs.fill_repeat.Tie as tie
+
+leb128-i64-requires : tie.Need-leb128-i64-requires
+leb128-i64-requires c κs = search needs
+
+enum-known-d : tie.Need-enum-known-d
+enum-known-d c = search needs
+
+fill-again-requires : tie.Need-fill-again-requires
+fill-again-requires c κs =
+    let p = c .before .before .before in
+    let b = p .before .before in
+    let h = b .before .before .before .pre in
+    let d = p .d .given .0 .0 in
+    let f : SFits w64 d = search needs in
+    (h .0, rw (toZ-ofZ w64 d f) (rw (via i64Of (b .leb128-i64 .ensures) (p .d .given .1)) at (h .1)))
+
+enum-known-k : tie.Need-enum-known-k
+enum-known-k c = search needs
+
+same-length : tie.Need-same-length
+same-length c = search needs
+
+same-length-2 : tie.Need-same-length-2
+same-length-2 c = search needs
+
+returns : tie.Need-returns
+returns c =
+    let p = c .before .before .before .before .before .before .before in
+    let b = p .before .before in
+    let d = p .d .given .0 .0 in
+    let f : SFits w64 d = search needs in
+    rw (via i64Of (b .leb128-i64 .ensures) (p .d .given .1)) (rw (toZ-ofZ w64 d f) at (c .before .before .before .fill-again .ensures))
+
+returns-2 : tie.Need-returns-2
+returns-2 c =
+    let b = c .before .before .before in
+    let r = via i64Of (b .leb128-i64 .ensures) (c .before .k .given .1) in
+    let e = summing-end (b .before .before .before .args .n) (repeated-bad _ _ _ _ _ _ r) in
+    (sym (next-eq e), wrote-eq (sym (readings-eq e)) (wrote-none (slotOf (pos 0)) flagOf _ _ _))
+
+pub fill-repeat-spec : {M : Type 1} → statement M
+fill-repeat-spec =
+    tie.close
+    (tie.spec
+    leb128-i64-requires
+    enum-known-d
+    fill-again-requires
+    enum-known-k
+    same-length
+    same-length-2
+    returns
+    returns-2)

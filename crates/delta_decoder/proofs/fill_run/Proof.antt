@@ -1,0 +1,153 @@
+-- `delta_decoder::fill_run` meets its contract: the run is the one that its head opens. Assumes nothing.
+use mathlib.Core.Path.{sym, _∙_}
+use native.Mathlib.Omega.{arith}
+use lib.IntN.{pos}
+use borrow.Author.Needs.{needs}
+use Rattle.encoding.specs.Answers.{headOf}
+use Rattle.encoding.specs.Column.{absent}
+use Rattle.encoding.specs.Slots.{slotOf, flagOf}
+use Rattle.encoding.proofs.Via.{via}
+use Rattle.encoding.proofs.Walking.{next-eq, readings-eq}
+use Rattle.encoding.proofs.Columns.{head-known}
+use Rattle.encoding.proofs.Filling.{room-eq, room-same, wrote-eq, wrote-same, wrote-none}
+use Rattle.delta_decoder.proofs.Deltas.{delta-again, delta-singly, delta-gone, delta-amiss}
+use Rattle.delta_decoder.proofs.fill_run.Statement.{statement}
+use Rattle.delta_decoder.proofs.fill_run.Tie as tie
+
+head-at-requires : tie.Need-head-at-requires
+head-at-requires c κs = search needs
+
+enum-known-c : tie.Need-enum-known-c
+enum-known-c c = search needs
+
+fill-repeat-requires : tie.Need-fill-repeat-requires
+fill-repeat-requires c κs =
+    let a = c .before .before .before in
+    let b = a .before .before in
+    let h = b .before .before .before .pre in
+    let r = via headOf (b .head-at .ensures) (a .c .given .1) in
+    let e = delta-again _ _ _ _ _ _ (h .0 .0) r in
+    (head-known _ _ _ _ r .2, room-eq (readings-eq e) (h .1))
+
+enum-known-c-2 : tie.Need-enum-known-c-2
+enum-known-c-2 c = search needs
+
+add-fill-singles : tie.Need-add-fill-singles
+add-fill-singles c =
+    let a = c .before in
+    let b = a .before .before in
+    let h = head-known _ _ _ _ (via headOf (b .head-at .ensures) (a .c2 .given .1)) in
+    omega arith
+
+fill-singles-requires : tie.Need-fill-singles-requires
+fill-singles-requires c κs =
+    let a = c .before .before .before in
+    let b = a .before .before in
+    let h = b .before .before .before .pre in
+    let r = via headOf (b .head-at .ensures) (a .c2 .given .1) in
+    let e = delta-singly _ _ _ _ _ _ (h .0 .0) r in
+    room-eq (readings-eq e) (h .1)
+
+enum-known-c-3 : tie.Need-enum-known-c-3
+enum-known-c-3 c = search needs
+
+fill-gone-requires : tie.Need-fill-gone-requires
+fill-gone-requires c κs =
+    let a = c .before .before .before in
+    let b = a .before .before in
+    let h = b .before .before .before .pre in
+    let r = via headOf (b .head-at .ensures) (a .c3 .given .1) in
+    let e = delta-gone _ _ _ _ _ _ (h .0 .0) r in
+    (room-same _ _ absent (room-eq (readings-eq e) (h .1)), h .1 .even)
+
+add-t33 : tie.Need-add-t33
+add-t33 c =
+    let a = c .before .before .before .before .before .before .before in
+    let b = a .before .before in
+    let h = head-known _ _ _ _ (via headOf (b .head-at .ensures) (a .c3 .given .1)) in
+    omega arith
+
+enum-known-k : tie.Need-enum-known-k
+enum-known-k c = search needs
+
+same-length : tie.Need-same-length
+same-length c = search needs
+
+same-length-2 : tie.Need-same-length-2
+same-length-2 c = search needs
+
+returns : tie.Need-returns
+returns c =
+    let a = c .before .before .before .before .before .before .before in
+    let b = a .before .before in
+    let h = b .before .before .before .pre in
+    let r = via headOf (b .head-at .ensures) (a .c .given .1) in
+    let e = delta-again _ _ _ _ _ _ (h .0 .0) r in
+    let w = c .before .before .before .fill-repeat .ensures in
+    (w .0 ∙ sym (next-eq e), wrote-eq (sym (readings-eq e)) (w .1))
+
+same-length-3 : tie.Need-same-length-3
+same-length-3 c = search needs
+
+same-length-4 : tie.Need-same-length-4
+same-length-4 c = search needs
+
+returns-2 : tie.Need-returns-2
+returns-2 c =
+    let a = c .before .before .before .before .before .before .before in
+    let b = a .before .before in
+    let h = b .before .before .before .pre in
+    let r = via headOf (b .head-at .ensures) (a .c2 .given .1) in
+    let e = delta-singly _ _ _ _ _ _ (h .0 .0) r in
+    let w = c .before .before .before .fill-singles .ensures in
+    (w .0 ∙ sym (next-eq e), wrote-eq (sym (readings-eq e)) (w .1))
+
+same-length-5 : tie.Need-same-length-5
+same-length-5 c = search needs
+
+same-length-6 : tie.Need-same-length-6
+same-length-6 c = search needs
+
+returns-3 : tie.Need-returns-3
+returns-3 c =
+    let a = c .before .before .before .before .before .before .before in
+    let b = a .before .before in
+    let h = b .before .before .before .pre in
+    let r = via headOf (b .head-at .ensures) (a .c3 .given .1) in
+    let e = delta-gone _ _ _ _ _ _ (h .0 .0) r in
+    let w = c .before .before .before .fill-gone .ensures in
+    (sym (next-eq e), wrote-eq (sym (readings-eq e)) (wrote-same (slotOf (pos 0)) flagOf absent (a .c3 .given .0 .0) _ _ _ _ _ (w .0) (w .1)))
+
+returns-4 : tie.Need-returns-4
+returns-4 c =
+    let a = c .before in
+    let b = a .before .before in
+    let h = b .before .before .before .pre in
+    let r = via headOf (b .head-at .ensures) (a .k .given .1) in
+    let e = delta-amiss _ _ _ _ _ _ (h .0 .0) r in
+    (sym (next-eq e), wrote-eq (sym (readings-eq e)) (wrote-none (slotOf (pos 0)) flagOf _ _ _))
+
+pub fill-run-spec : {M : Type 1} → statement M
+fill-run-spec =
+    tie.close
+    (tie.spec
+    head-at-requires
+    enum-known-c
+    fill-repeat-requires
+    enum-known-c-2
+    add-fill-singles
+    fill-singles-requires
+    enum-known-c-3
+    fill-gone-requires
+    add-t33
+    enum-known-k
+    same-length
+    same-length-2
+    returns
+    same-length-3
+    same-length-4
+    returns-2
+    same-length-5
+    same-length-6
+    returns-3
+    returns-4)

@@ -1,0 +1,95 @@
+-- `delta_decoder::scan_run` meets its contract: the run is the one that its head opens. Assumes nothing.
+use mathlib.Core.Path.{sym, _∙_}
+use native.Mathlib.Omega.{arith}
+use borrow.Author.Needs.{needs}
+use Rattle.encoding.specs.Answers.{headOf}
+use Rattle.encoding.proofs.Via.{via}
+use Rattle.encoding.proofs.Walking.{next-eq}
+use Rattle.encoding.proofs.Columns.{head-known}
+use Rattle.delta_decoder.proofs.Deltas.{delta-again, delta-singly, delta-gone, delta-amiss}
+use Rattle.delta_decoder.proofs.scan_run.Statement.{statement}
+use Rattle.delta_decoder.proofs.scan_run.Tie as tie
+
+head-at-requires : tie.Need-head-at-requires
+head-at-requires c κs = search needs
+
+enum-known-c : tie.Need-enum-known-c
+enum-known-c c = search needs
+
+scan-repeat-requires : tie.Need-scan-repeat-requires
+scan-repeat-requires c κs =
+    let a = c .before in
+    let b = a .before .before in
+    head-known _ _ _ _ (via headOf (b .head-at .ensures) (a .c .given .1)) .2
+
+enum-known-c-2 : tie.Need-enum-known-c-2
+enum-known-c-2 c = search needs
+
+add-scan-singles : tie.Need-add-scan-singles
+add-scan-singles c =
+    let a = c .before in
+    let b = a .before .before in
+    let h = head-known _ _ _ _ (via headOf (b .head-at .ensures) (a .c2 .given .1)) in
+    omega arith
+
+scan-singles-requires : tie.Need-scan-singles-requires
+scan-singles-requires c κs = search needs
+
+enum-known-c-3 : tie.Need-enum-known-c-3
+enum-known-c-3 c = search needs
+
+add-t16 : tie.Need-add-t16
+add-t16 c =
+    let a = c .before in
+    let b = a .before .before in
+    let h = head-known _ _ _ _ (via headOf (b .head-at .ensures) (a .c3 .given .1)) in
+    omega arith
+
+enum-known-k : tie.Need-enum-known-k
+enum-known-k c = search needs
+
+returns : tie.Need-returns
+returns c =
+    let a = c .before .before in
+    let b = a .before .before in
+    let e = delta-again _ _ _ _ _ _ (b .before .before .pre .0) (via headOf (b .head-at .ensures) (a .c .given .1)) in
+    c .scan-repeat .ensures ∙ sym (next-eq e)
+
+returns-2 : tie.Need-returns-2
+returns-2 c =
+    let a = c .before .before in
+    let b = a .before .before in
+    let e = delta-singly _ _ _ _ _ _ (b .before .before .pre .0) (via headOf (b .head-at .ensures) (a .c2 .given .1)) in
+    c .scan-singles .ensures ∙ sym (next-eq e)
+
+returns-3 : tie.Need-returns-3
+returns-3 c =
+    let a = c .before in
+    let b = a .before .before in
+    let e = delta-gone _ _ _ _ _ _ (b .before .before .pre .0) (via headOf (b .head-at .ensures) (a .c3 .given .1)) in
+    sym (next-eq e)
+
+returns-4 : tie.Need-returns-4
+returns-4 c =
+    let a = c .before in
+    let b = a .before .before in
+    let e = delta-amiss _ _ _ _ _ _ (b .before .before .pre .0) (via headOf (b .head-at .ensures) (a .k .given .1)) in
+    sym (next-eq e)
+
+pub scan-run-spec : {M : Type 1} → statement M
+scan-run-spec =
+    tie.close
+    (tie.spec
+    head-at-requires
+    enum-known-c
+    scan-repeat-requires
+    enum-known-c-2
+    add-scan-singles
+    scan-singles-requires
+    enum-known-c-3
+    add-t16
+    enum-known-k
+    returns
+    returns-2
+    returns-3
+    returns-4)

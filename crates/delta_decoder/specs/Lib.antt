@@ -1,0 +1,4 @@
+pub mod Answers
+pub mod Difference
+pub mod Sofar
+pub mod Sums

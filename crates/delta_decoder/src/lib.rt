@@ -1,0 +1,294 @@
+// Reading a delta column, optional i64 as the run-length column of their differences (the decoder behind the crate's
+// columnar/column_range/delta.rs): its readings counted in one pass over its bytes, whatever the counts say, or decoded into lent slots.
+ghost use mathlib.Core.Path.{_≡_};
+ghost use Prim.Native.Nat.{_+_, _≤_, _<_};
+ghost use lib.IntN.{pos};
+ghost use lib.ListN.{length, replicate};
+ghost use lib.Seq.{sets};
+ghost use Rattle.leb128.specs.Got.{got};
+ghost use Rattle.leb128.specs.Read.{i64At};
+ghost use Rattle.encoding.specs.Answers.{answerOf};
+ghost use Rattle.encoding.specs.Column.{repeated, singles};
+ghost use Rattle.encoding.specs.Limit.{limit};
+ghost use Rattle.encoding.specs.Slots.{slotOf, flagOf, Decoded, Room, Wrote};
+ghost use Rattle.encoding.specs.Walk.{outcome};
+ghost use Rattle.delta_decoder.specs.Answers.{stepOf};
+ghost use Rattle.delta_decoder.specs.Difference.{i64E};
+ghost use Rattle.delta_decoder.specs.Sofar.{sofar, summing, deltaRun};
+ghost use Rattle.delta_decoder.specs.Sums.{deltaTrace};
+
+mod sums;
+
+use crate::sums::Sum;
+use crate::sums::add;
+use crate::sums::add_times;
+use crate::sums::sum_of;
+use encoding::Answer;
+use encoding::Head;
+use leb128::ParsedI64;
+
+const HALF: u64 = 9223372036854775808;
+
+// Behind a run: the next position, how many readings came so far, and their sum; or the run's fault.
+enum Step {
+    On(usize, u64, u64),
+    Off(u8, usize),
+}
+
+// A repeated run of c differences, whose value stands at q, on the sum n.
+fn scan_repeat(s: &[u8], q: usize, had: u64, c: u64, n: u64) -> Step
+    requires { ⌜ had + c ≤ limit ⌝ }
+    ensures { λ r. ⌜ stepOf r ≡ summing n (repeated had c q (i64At (now (s .entry)) q)) .next ⌝ }
+{
+    match leb128::leb128_i64(s, q) {
+        ParsedI64::Number(d, next) => match add_times(n, d, c) {
+            Sum::Is(m) => Step::On(next, had + c, m),
+            Sum::Outside => Step::Off(6, q),
+        },
+        ParsedI64::Refused(k, place) => Step::Off(k, place),
+    }
+}
+
+// c differences singly, from q on, behind which there are `total` readings, on the sum `sum`.
+fn scan_singles(s: &[u8], q: usize, total: u64, c: u64, sum: u64) -> Step
+    ensures { λ r. ⌜ stepOf r ≡ summing sum (singles i64E (now (s .entry)) total c q) .next ⌝ }
+{
+    let mut at = q;
+    let mut left = c;
+    let mut n = sum;
+    while 0 < left {
+        match leb128::leb128_i64(s, at) {
+            ParsedI64::Number(d, next) => match add(n, d) {
+                Sum::Is(m) => {
+                    at = next;
+                    left -= 1;
+                    n = m;
+                }
+                Sum::Outside => {
+                    return Step::Off(6, at);
+                }
+            },
+            ParsedI64::Refused(k, place) => {
+                return Step::Off(k, place);
+            }
+        }
+    }
+    Step::On(at, total, n)
+}
+
+// The run at `at`, before which there are `had` readings and the sum n.
+fn scan_run(s: &[u8], at: usize, had: u64, n: u64) -> Step
+    requires { ⌜ (at < length (now s)) × (had ≤ limit) ⌝ }
+    ensures { λ r. ⌜ stepOf r ≡ deltaRun (now (s .entry)) (sofar at had n) .next ⌝ }
+{
+    match run_head::head_at(s, at, had) {
+        Head::Again(c, q) => scan_repeat(s, q, had, c, n),
+        Head::Singly(c, q) => scan_singles(s, q, had + c, c, n),
+        Head::Gone(c, next) => Step::On(next, had + c, n),
+        Head::Amiss(k, place) => Step::Off(k, place),
+    }
+}
+
+// How many readings a column has, or its first fault.
+pub fn count(s: &[u8]) -> Answer
+    ensures { λ r. ⌜ answerOf r ≡ outcome (deltaTrace (now (s .entry))) ⌝ }
+{
+    let mut at: usize = 0;
+    let mut had: u64 = 0;
+    let mut n: u64 = HALF;
+    while at < s.len() {
+        match scan_run(s, at, had, n) {
+            Step::On(next, h, m) => {
+                at = next;
+                had = h;
+                n = m;
+            }
+            Step::Off(k, place) => {
+                return Answer::Refused(k, place);
+            }
+        }
+    }
+    Answer::Done(had)
+}
+
+// c absent readings in the slots from `from` on.
+fn fill_gone(values: &mut [i64], present: &mut [u8], from: usize, c: u64)
+    requires { ⌜ (from + c ≤ length (now values)) × (length (now present) ≡ length (now values)) ⌝ }
+    ensures { λ _. ⌜ (now (values .exit) ≡ sets (now (values .entry)) from (replicate c (pos 0)))
+        × (now (present .exit) ≡ sets (now (present .entry)) from (replicate c 0)) ⌝ }
+{
+    let mut i = from;
+    let mut left = c;
+    while 0 < left {
+        values[i] = 0;
+        present[i] = 0;
+        i += 1;
+        left -= 1;
+    }
+}
+
+// A repeated run of c differences d that stands at q, on the sum `sum`, before the position `next`.
+fn fill_again(
+    d: i64,
+    q: usize,
+    next: usize,
+    had: u64,
+    c: u64,
+    sum: u64,
+    values: &mut [i64],
+    present: &mut [u8],
+) -> Step
+    requires { ⌜ had + c ≤ limit ⌝ }
+    requires { ⌜ Room (summing sum (repeated had c q (got d next)) .readings) had (now values) (now present) ⌝ }
+    ensures { λ r. ⌜ stepOf r ≡ summing sum (repeated had c q (got d next)) .next ⌝ }
+    ensures { λ r. ⌜ Wrote (slotOf (pos 0)) flagOf (summing sum (repeated had c q (got d next)) .readings) had
+        (now (values .entry)) (now (values .exit)) (now (present .entry)) (now (present .exit)) ⌝ }
+{
+    let mut i = had as usize;
+    let mut left = c;
+    let mut n = sum;
+    while 0 < left {
+        match add(n, d) {
+            Sum::Is(m) => {
+                values[i] = sum_of(m);
+                present[i] = 1;
+                i += 1;
+                left -= 1;
+                n = m;
+            }
+            Sum::Outside => {
+                return Step::Off(6, q);
+            }
+        }
+    }
+    Step::On(next, had + c, n)
+}
+
+// A repeated run of c differences, whose value stands at q, on the sum n.
+fn fill_repeat(
+    s: &[u8],
+    q: usize,
+    had: u64,
+    c: u64,
+    n: u64,
+    values: &mut [i64],
+    present: &mut [u8],
+) -> Step
+    requires { ⌜ had + c ≤ limit ⌝ }
+    requires { ⌜ Room (summing n (repeated had c q (i64At (now s) q)) .readings) had (now values) (now present) ⌝ }
+    ensures { λ r. ⌜ stepOf r ≡ summing n (repeated had c q (i64At (now (s .entry)) q)) .next ⌝ }
+    ensures { λ r. ⌜ Wrote (slotOf (pos 0)) flagOf (summing n (repeated had c q (i64At (now (s .entry)) q)) .readings) had
+        (now (values .entry)) (now (values .exit)) (now (present .entry)) (now (present .exit)) ⌝ }
+{
+    match leb128::leb128_i64(s, q) {
+        ParsedI64::Number(d, next) => fill_again(d, q, next, had, c, n, values, present),
+        ParsedI64::Refused(k, place) => Step::Off(k, place),
+    }
+}
+
+// c differences singly, from q on, on the sum `sum`.
+fn fill_singles(
+    s: &[u8],
+    q: usize,
+    total: u64,
+    c: u64,
+    from: usize,
+    sum: u64,
+    values: &mut [i64],
+    present: &mut [u8],
+) -> Step
+    requires { ⌜ Room (summing sum (singles i64E (now s) total c q) .readings) from (now values) (now present) ⌝ }
+    ensures { λ r. ⌜ stepOf r ≡ summing sum (singles i64E (now (s .entry)) total c q) .next ⌝ }
+    ensures { λ r. ⌜ Wrote (slotOf (pos 0)) flagOf (summing sum (singles i64E (now (s .entry)) total c q) .readings) from
+        (now (values .entry)) (now (values .exit)) (now (present .entry)) (now (present .exit)) ⌝ }
+{
+    let mut at = q;
+    let mut i = from;
+    let mut left = c;
+    let mut n = sum;
+    while 0 < left {
+        match leb128::leb128_i64(s, at) {
+            ParsedI64::Number(d, next) => match add(n, d) {
+                Sum::Is(m) => {
+                    values[i] = sum_of(m);
+                    present[i] = 1;
+                    at = next;
+                    i += 1;
+                    left -= 1;
+                    n = m;
+                }
+                Sum::Outside => {
+                    return Step::Off(6, at);
+                }
+            },
+            ParsedI64::Refused(k, place) => {
+                return Step::Off(k, place);
+            }
+        }
+    }
+    Step::On(at, total, n)
+}
+
+// The run at `at`, before which there are `had` readings and the sum n.
+fn fill_run(s: &[u8], at: usize, had: u64, n: u64, values: &mut [i64], present: &mut [u8]) -> Step
+    requires { ⌜ (at < length (now s)) × (had ≤ limit) ⌝ }
+    requires { ⌜ Room (deltaRun (now s) (sofar at had n) .readings) had (now values) (now present) ⌝ }
+    ensures { λ r. ⌜ stepOf r ≡ deltaRun (now (s .entry)) (sofar at had n) .next ⌝ }
+    ensures { λ r. ⌜ Wrote (slotOf (pos 0)) flagOf (deltaRun (now (s .entry)) (sofar at had n) .readings) had
+        (now (values .entry)) (now (values .exit)) (now (present .entry)) (now (present .exit)) ⌝ }
+{
+    match run_head::head_at(s, at, had) {
+        Head::Again(c, q) => fill_repeat(s, q, had, c, n, values, present),
+        Head::Singly(c, q) => fill_singles(s, q, had + c, c, had as usize, n, values, present),
+        Head::Gone(c, next) => {
+            fill_gone(values, present, had as usize, c);
+            Step::On(next, had + c, n)
+        }
+        Head::Amiss(k, place) => Step::Off(k, place),
+    }
+}
+
+// The readings before the first faulty one, into the first slots; and how the column ends.
+fn fill(s: &[u8], values: &mut [i64], present: &mut [u8]) -> Answer
+    requires { ⌜ Room (deltaTrace (now s) .readings) 0 (now values) (now present) ⌝ }
+    ensures { λ r. ⌜ answerOf r ≡ outcome (deltaTrace (now (s .entry))) ⌝ }
+    ensures { λ r. ⌜ Wrote (slotOf (pos 0)) flagOf (deltaTrace (now (s .entry)) .readings) 0
+        (now (values .entry)) (now (values .exit)) (now (present .entry)) (now (present .exit)) ⌝ }
+{
+    let mut at: usize = 0;
+    let mut had: u64 = 0;
+    let mut n: u64 = HALF;
+    while at < s.len() {
+        match fill_run(s, at, had, n, values, present) {
+            Step::On(next, h, m) => {
+                at = next;
+                had = h;
+                n = m;
+            }
+            Step::Off(k, place) => {
+                return Answer::Refused(k, place);
+            }
+        }
+    }
+    Answer::Done(had)
+}
+
+// The whole column into lent slots.
+pub fn decode(s: &[u8], values: &mut [i64], present: &mut [u8]) -> Answer
+    ensures { λ r. ⌜ Decoded (deltaTrace (now (s .entry))) (slotOf (pos 0)) flagOf
+        (now (values .entry)) (now (values .exit)) (now (present .entry)) (now (present .exit)) (answerOf r) ⌝ }
+{
+    if values.len() != present.len() {
+        return Answer::Refused(8, 0);
+    }
+    match count(s) {
+        Answer::Done(n) => {
+            if n <= values.len() as u64 {
+                fill(s, values, present)
+            } else {
+                Answer::Refused(9, 0)
+            }
+        }
+        Answer::Refused(k, place) => Answer::Refused(k, place),
+    }
+}

@@ -1,0 +1,61 @@
+// Running sums. A sum z is kept as the unsigned number z + 2^63, so that it leaves i64 just where that number leaves u64.
+ghost use mathlib.Core.Path.{_≡_};
+ghost use Rattle.delta_decoder.specs.Answers.{sumIs};
+ghost use Rattle.delta_decoder.specs.Sofar.{sumOf, plus, plusTimes};
+use leb128::magnitude;
+
+const ALL: u64 = 18446744073709551615;
+
+const HALF: u64 = 9223372036854775808;
+
+pub(crate) enum Sum {
+    Is(u64),
+    Outside,
+}
+
+// The sum that is kept as n.
+pub(crate) fn sum_of(n: u64) -> i64
+    ensures { λ r. ⌜ r ≡ sumOf n ⌝ }
+{
+    if n < HALF {
+        return !((HALF - 1 - n) as i64);
+    }
+    (n - HALF) as i64
+}
+
+// The sum n and a difference.
+pub(crate) fn add(n: u64, d: i64) -> Sum
+    ensures { λ r. ⌜ sumIs r ≡ plus n d ⌝ }
+{
+    let m = magnitude(d);
+    if d < 0 {
+        if m < n {
+            return Sum::Is(n - m - 1);
+        }
+        return Sum::Outside;
+    }
+    if m <= ALL - n {
+        return Sum::Is(n + m);
+    }
+    Sum::Outside
+}
+
+// The sum n and c times a difference: sums rise or fall, so the last one decides, and no sum is computed that does not fit.
+pub(crate) fn add_times(n: u64, d: i64, c: u64) -> Sum
+    ensures { λ r. ⌜ sumIs r ≡ plusTimes n d c ⌝ }
+{
+    let m = magnitude(d);
+    if d < 0 {
+        if c <= n / (m + 1) {
+            return Sum::Is(n - c * (m + 1));
+        }
+        return Sum::Outside;
+    }
+    if m == 0 {
+        return Sum::Is(n);
+    }
+    if c <= (ALL - n) / m {
+        return Sum::Is(n + c * m);
+    }
+    Sum::Outside
+}

@@ -1,0 +1,378 @@
+// Writing a list of optional i64 as a delta column (the encoder behind the crate's columnar/column_range/delta.rs): the stretches of its
+// differences found by looking ahead over the lent list, once for their size and once to write them. No difference is kept: each is taken
+// from the last value that was present.
+ghost use mathlib.Core.Path.{_≡_};
+ghost use Prim.Native.Nat.{_+_, _-_, _*_, _≤_, _<_};
+ghost use lib.IntN.{pos, _-ℤ_};
+ghost use lib.ListN.{length, getD};
+ghost use lib.Seq.{sets, slice};
+ghost use Rattle.leb128.specs.Write.{u64Bytes, i64Bytes};
+ghost use Rattle.encoding.specs.Ahead.{bytesFrom, endOf, stretchOf, PieceAt, RunTo, RowTo, Paired, PutAt, AllPresent};
+ghost use Rattle.encoding.specs.Answers.{answerOf};
+ghost use Rattle.encoding.specs.Given.{slotList, sized, Encoded};
+ghost use Rattle.encoding.specs.Limit.{limit};
+ghost use Rattle.encoding.specs.Writer.{allBytes, stretchBytes};
+ghost use Rattle.delta_encoder.specs.Ahead.{diffs, lastBefore, Narrow};
+ghost use Rattle.delta_encoder.specs.Answers.{widthOf};
+ghost use Rattle.delta_decoder.specs.Difference.{sameZ, holds, i64E};
+ghost use Rattle.delta_encoder.specs.Differences.{differences, deltaBytes, wideAt, deltaJudged};
+use encoding::Answer;
+use encoding::Piece;
+use leb128::magnitude;
+use leb128_writer::Written;
+
+const HALF: u64 = 9223372036854775808;
+
+// What the first difference is taken from.
+const ORIGIN: i64 = 0;
+
+// Does an i64 hold every difference of a list? If not, the index of the first that it does not hold.
+enum Width {
+    Narrow,
+    Wide(usize),
+}
+
+// Does an i64 hold v - last?
+fn is_held(v: i64, last: i64) -> bool
+    ensures { λ r. ⌜ r ≡ holds (v -ℤ last) ⌝ }
+{
+    let a = magnitude(v);
+    let b = magnitude(last);
+    if v < 0 {
+        if last < 0 {
+            return true;
+        }
+        return a + b < HALF;
+    }
+    if last < 0 {
+        return a + b + 1 < HALF;
+    }
+    true
+}
+
+fn check_width(values: &[i64], present: &[u8]) -> Width
+    requires { ⌜ length (now present) ≡ length (now values) ⌝ }
+    ensures { λ r. ⌜ widthOf r ≡ wideAt 0 (differences (pos 0) (slotList (now (values .entry)) (now (present .entry)))) ⌝ }
+{
+    let mut last = ORIGIN;
+    let mut k: usize = 0;
+    while k < values.len() {
+        if present[k] != 0 {
+            if !is_held(values[k], last) {
+                return Width::Wide(k);
+            }
+            last = values[k];
+        }
+        k += 1;
+    }
+    Width::Narrow
+}
+
+// The index behind the differences that equal the one at i, before which `last` is the last value.
+fn run_end(values: &[i64], present: &[u8], i: usize, last: i64) -> usize
+    requires { ⌜ Narrow (now values) (now present) ⌝ }
+    requires { ⌜ (i < length (now values)) × (getD (now present) i 0 ≡ 0 → ⊥) × (last ≡ lastBefore (now values) (now present) i) ⌝ }
+    ensures { λ r. ⌜ RunTo sameZ (pos 0) (diffs (now (values .entry)) (now (present .entry))) (now (present .entry)) i r ⌝ }
+{
+    let d = values[i] - last;
+    let mut k = i + 1;
+    while k < values.len() {
+        if present[k] == 0 {
+            return k;
+        }
+        if values[k] - values[k - 1] != d {
+            return k;
+        }
+        k += 1;
+    }
+    k
+}
+
+// Does the difference at k, before which `last` is the last value, stand there twice?
+fn paired(values: &[i64], present: &[u8], k: usize, last: i64) -> bool
+    requires { ⌜ Narrow (now values) (now present) ⌝ }
+    requires { ⌜ (k < length (now values)) × (getD (now present) k 0 ≡ 0 → ⊥) × (last ≡ lastBefore (now values) (now present) k) ⌝ }
+    ensures { λ r. ⌜ Paired sameZ (pos 0) (diffs (now (values .entry)) (now (present .entry))) (now (present .entry)) k r ⌝ }
+{
+    let n = k + 1;
+    if values.len() <= n {
+        return false;
+    }
+    if present[n] == 0 {
+        return false;
+    }
+    if values[n] - values[k] == values[k] - last {
+        return true;
+    }
+    false
+}
+
+// The index behind the differences from i on that equal no neighbour.
+fn row_end(values: &[i64], present: &[u8], i: usize) -> usize
+    requires { ⌜ Narrow (now values) (now present) ⌝ }
+    requires { ⌜ RowTo sameZ (pos 0) (diffs (now values) (now present)) (now present) i (i + 1) ⌝ }
+    requires { ⌜ (getD (now present) i 0 ≡ 0 → ⊥) ⌝ }
+    ensures { λ r. ⌜ PieceAt sameZ (pos 0) (diffs (now (values .entry)) (now (present .entry))) (now (present .entry)) i (Piece.Row r) ⌝ }
+{
+    let mut j = i + 1;
+    while j < values.len() {
+        if present[j] == 0 {
+            return j;
+        }
+        if paired(values, present, j, values[j - 1]) {
+            return j;
+        }
+        j += 1;
+    }
+    j
+}
+
+// The stretch at i, before which `last` is the last value.
+fn piece_at(values: &[i64], present: &[u8], i: usize, last: i64) -> Piece
+    requires { ⌜ Narrow (now values) (now present) ⌝ }
+    requires { ⌜ (i < length (now values)) × (last ≡ lastBefore (now values) (now present) i) ⌝ }
+    ensures { λ r. ⌜ PieceAt sameZ (pos 0) (diffs (now (values .entry)) (now (present .entry))) (now (present .entry)) i r ⌝ }
+{
+    if present[i] == 0 {
+        return Piece::Gap(given_list::gap_end(present, i));
+    }
+    let k = run_end(values, present, i, last);
+    if 2 <= k - i {
+        return Piece::Run(k);
+    }
+    Piece::Row(row_end(values, present, i))
+}
+
+fn piece_end(piece: Piece) -> usize
+    ensures { λ r. ⌜ r ≡ endOf piece ⌝ }
+{
+    match piece {
+        Piece::Gap(k) => k,
+        Piece::Run(k) => k,
+        Piece::Row(k) => k,
+    }
+}
+
+// The last value behind the stretch at i, before which it is `last`.
+fn piece_last(values: &[i64], present: &[u8], i: usize, piece: Piece, last: i64) -> i64
+    requires { ⌜ length (now present) ≡ length (now values) ⌝ }
+    requires { ⌜ last ≡ lastBefore (now values) (now present) i ⌝ }
+    requires { ⌜ PieceAt sameZ (pos 0) (diffs (now values) (now present)) (now present) i piece ⌝ }
+    ensures { λ r. ⌜ r ≡ lastBefore (now (values .entry)) (now (present .entry)) (endOf piece) ⌝ }
+{
+    let k = piece_end(piece);
+    if present[k - 1] == 0 {
+        return last;
+    }
+    values[k - 1]
+}
+
+// How many bytes the differences from i up to k take, before which `last` is the last value.
+fn row_len(values: &[i64], present: &[u8], i: usize, k: usize, last: i64) -> usize
+    requires { ⌜ Narrow (now values) (now present) × (length (now values) ≤ limit) ⌝ }
+    requires { ⌜ (i ≤ k) × (k ≤ length (now values)) × AllPresent (now present) i k × (last ≡ lastBefore (now values) (now present) i) ⌝ }
+    ensures { λ r. ⌜ (r ≡ length (allBytes i64E (slice i k (diffs (now (values .entry)) (now (present .entry)))))) × (r ≤ 10 * (k - i)) ⌝ }
+{
+    let mut n: usize = 0;
+    let mut l = last;
+    let mut j = i;
+    while j < k {
+        n += leb128_writer::len_i64(values[j] - l);
+        l = values[j];
+        j += 1;
+    }
+    n
+}
+
+// How many bytes the stretch at i takes, before which `last` is the last value.
+fn piece_len(values: &[i64], present: &[u8], i: usize, piece: Piece, last: i64) -> usize
+    requires { ⌜ Narrow (now values) (now present) × (length (now values) ≤ limit) ⌝ }
+    requires { ⌜ last ≡ lastBefore (now values) (now present) i ⌝ }
+    requires { ⌜ PieceAt sameZ (pos 0) (diffs (now values) (now present)) (now present) i piece ⌝ }
+    ensures { λ r. ⌜ r ≡ length (stretchBytes i64E (stretchOf (pos 0) (diffs (now (values .entry)) (now (present .entry))) i piece)) ⌝ }
+{
+    match piece {
+        Piece::Gap(k) => leb128_writer::len_i64(0) + leb128_writer::len_u64((k - i) as u64),
+        Piece::Run(k) => leb128_writer::len_i64(given_list::again_count((k - i) as u32))
+            + leb128_writer::len_i64(values[i] - last),
+        Piece::Row(k) => leb128_writer::len_i64(given_list::singly_count((k - i) as u32))
+            + row_len(values, present, i, k, last),
+    }
+}
+
+// How many bytes a list of which a value is present takes.
+fn bytes_len(values: &[i64], present: &[u8]) -> usize
+    requires { ⌜ Narrow (now values) (now present) × (length (now values) ≤ limit) ⌝ }
+    ensures { λ r. ⌜ r ≡ length (bytesFrom i64E (diffs (now (values .entry)) (now (present .entry))) (now (present .entry)) 0) ⌝ }
+{
+    let mut n: usize = 0;
+    let mut last = ORIGIN;
+    let mut i: usize = 0;
+    while i < values.len() {
+        let piece = piece_at(values, present, i, last);
+        n += piece_len(values, present, i, piece, last);
+        last = piece_last(values, present, i, piece, last);
+        i = piece_end(piece);
+    }
+    n
+}
+
+// How many bytes a list takes whose differences are held: none where no value is present.
+fn column_len(values: &[i64], present: &[u8]) -> usize
+    requires { ⌜ Narrow (now values) (now present) × (length (now values) ≤ limit) ⌝ }
+    ensures { λ r. ⌜ r ≡ length (deltaBytes (slotList (now (values .entry)) (now (present .entry)))) ⌝ }
+{
+    if !given_list::any_present(present) {
+        return 0;
+    }
+    bytes_len(values, present)
+}
+
+// Is this a list whose differences are held? Its length, or the refusal.
+fn judge(values: &[i64], present: &[u8]) -> Answer
+    ensures { λ r. ⌜ answerOf r ≡ deltaJudged (now (values .entry)) (now (present .entry)) ⌝ }
+{
+    match given_list::judge_list(values.len(), present) {
+        Answer::Done(n) => match check_width(values, present) {
+            Width::Narrow => Answer::Done(n),
+            Width::Wide(i) => Answer::Refused(7, i),
+        },
+        Answer::Refused(n, place) => Answer::Refused(n, place),
+    }
+}
+
+// How many bytes a list takes, or why it is refused.
+pub fn encoded_len(values: &[i64], present: &[u8]) -> Answer
+    ensures { λ r. ⌜ answerOf r ≡ sized (deltaBytes (slotList (now (values .entry)) (now (present .entry))))
+        (deltaJudged (now (values .entry)) (now (present .entry))) ⌝ }
+{
+    match judge(values, present) {
+        Answer::Done(_) => Answer::Done(column_len(values, present) as u64),
+        Answer::Refused(n, place) => Answer::Refused(n, place),
+    }
+}
+
+// The numbers of a run where there is room for them; each gives the position behind it.
+fn put_number(out: &mut [u8], at: usize, v: u64) -> usize
+    requires { ⌜ at + length (u64Bytes v) ≤ length (now out) ⌝ }
+    ensures { λ r. ⌜ PutAt (now (out .entry)) (now (out .exit)) at r (u64Bytes v) ⌝ }
+{
+    match leb128_writer::put_u64(v, out, at) {
+        Written::Next(next) => next,
+        Written::Refused(_, place) => place,
+    }
+}
+
+fn put_signed(out: &mut [u8], at: usize, x: i64) -> usize
+    requires { ⌜ at + length (i64Bytes x) ≤ length (now out) ⌝ }
+    ensures { λ r. ⌜ PutAt (now (out .entry)) (now (out .exit)) at r (i64Bytes x) ⌝ }
+{
+    match leb128_writer::put_i64(x, out, at) {
+        Written::Next(next) => next,
+        Written::Refused(_, place) => place,
+    }
+}
+
+// The differences from i up to k, before which `last` is the last value.
+fn put_row(
+    values: &[i64],
+    present: &[u8],
+    i: usize,
+    k: usize,
+    last: i64,
+    out: &mut [u8],
+    from: usize,
+) -> usize
+    requires { ⌜ Narrow (now values) (now present) ⌝ }
+    requires { ⌜ (i ≤ k) × (k ≤ length (now values)) × AllPresent (now present) i k × (last ≡ lastBefore (now values) (now present) i) ⌝ }
+    requires { ⌜ from + length (allBytes i64E (slice i k (diffs (now values) (now present)))) ≤ length (now out) ⌝ }
+    ensures { λ r. ⌜ PutAt (now (out .entry)) (now (out .exit)) from r (allBytes i64E (slice i k (diffs (now (values .entry)) (now (present .entry))))) ⌝ }
+{
+    let mut at = from;
+    let mut l = last;
+    let mut j = i;
+    while j < k {
+        at = put_signed(out, at, values[j] - l);
+        l = values[j];
+        j += 1;
+    }
+    at
+}
+
+// The stretch at i, before which `last` is the last value.
+fn put_piece(
+    values: &[i64],
+    present: &[u8],
+    i: usize,
+    piece: Piece,
+    last: i64,
+    out: &mut [u8],
+    at: usize,
+) -> usize
+    requires { ⌜ Narrow (now values) (now present) × (length (now values) ≤ limit) ⌝ }
+    requires { ⌜ last ≡ lastBefore (now values) (now present) i ⌝ }
+    requires { ⌜ PieceAt sameZ (pos 0) (diffs (now values) (now present)) (now present) i piece ⌝ }
+    requires { ⌜ at + length (stretchBytes i64E (stretchOf (pos 0) (diffs (now values) (now present)) i piece)) ≤ length (now out) ⌝ }
+    ensures { λ r. ⌜ PutAt (now (out .entry)) (now (out .exit)) at r
+        (stretchBytes i64E (stretchOf (pos 0) (diffs (now (values .entry)) (now (present .entry))) i piece)) ⌝ }
+{
+    match piece {
+        Piece::Gap(k) => {
+            let q = put_signed(out, at, 0);
+            put_number(out, q, (k - i) as u64)
+        }
+        Piece::Run(k) => {
+            let q = put_signed(out, at, given_list::again_count((k - i) as u32));
+            put_signed(out, q, values[i] - last)
+        }
+        Piece::Row(k) => {
+            let q = put_signed(out, at, given_list::singly_count((k - i) as u32));
+            put_row(values, present, i, k, last, out, q)
+        }
+    }
+}
+
+// All stretches.
+fn put_all(values: &[i64], present: &[u8], out: &mut [u8])
+    requires { ⌜ Narrow (now values) (now present) × (length (now values) ≤ limit) ⌝ }
+    requires { ⌜ length (bytesFrom i64E (diffs (now values) (now present)) (now present) 0) ≤ length (now out) ⌝ }
+    ensures { λ _. ⌜ now (out .exit) ≡ sets (now (out .entry)) 0 (bytesFrom i64E (diffs (now (values .entry)) (now (present .entry))) (now (present .entry)) 0) ⌝ }
+{
+    let mut at: usize = 0;
+    let mut last = ORIGIN;
+    let mut i: usize = 0;
+    while i < values.len() {
+        let piece = piece_at(values, present, i, last);
+        at = put_piece(values, present, i, piece, last, out, at);
+        last = piece_last(values, present, i, piece, last);
+        i = piece_end(piece);
+    }
+}
+
+fn put_column(values: &[i64], present: &[u8], out: &mut [u8])
+    requires { ⌜ Narrow (now values) (now present) × (length (now values) ≤ limit) ⌝ }
+    requires { ⌜ length (deltaBytes (slotList (now values) (now present))) ≤ length (now out) ⌝ }
+    ensures { λ _. ⌜ now (out .exit) ≡ sets (now (out .entry)) 0 (deltaBytes (slotList (now (values .entry)) (now (present .entry)))) ⌝ }
+{
+    if given_list::any_present(present) {
+        put_all(values, present, out);
+    }
+}
+
+// The list as a column, at the front of `out`.
+pub fn encode(values: &[i64], present: &[u8], out: &mut [u8]) -> Answer
+    ensures { λ r. ⌜ Encoded (deltaBytes (slotList (now (values .entry)) (now (present .entry))))
+        (deltaJudged (now (values .entry)) (now (present .entry))) (now (out .entry)) (now (out .exit)) (answerOf r) ⌝ }
+{
+    match encoded_len(values, present) {
+        Answer::Done(n) => {
+            if n <= out.len() as u64 {
+                put_column(values, present, out);
+                Answer::Done(n)
+            } else {
+                Answer::Refused(10, 0)
+            }
+        }
+        Answer::Refused(n, place) => Answer::Refused(n, place),
+    }
+}

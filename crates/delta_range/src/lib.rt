@@ -1,0 +1,217 @@
+// The edit of a DeltaInteger column: a range of its readings replaced, and the whole new block written (the splice of the crate's
+// columnar/column_range/delta.rs).
+ghost use mathlib.Core.Path.{_≡_};
+ghost use mathlib.Core.List.{map};
+ghost use Prim.Native.Nat.{_+_, _-_, _≤_};
+ghost use mathlib.Core.Option.{none};
+ghost use lib.IntN.{pos};
+ghost use lib.ListN.{length, take, drop};
+ghost use lib.Seq.{paste};
+ghost use Rattle.leb128.specs.Answer.{done};
+ghost use Rattle.encoding.specs.Answers.{answerOf};
+ghost use Rattle.encoding.specs.Given.{given, slotList};
+ghost use Rattle.encoding.specs.Slots.{slotOf, flagOf, Decoded};
+ghost use Rattle.delta_decoder.specs.Sums.{deltaTrace};
+ghost use Rattle.splice.specs.Contract.{slotIn, OptionalSpliced};
+ghost use Rattle.splice.specs.Edit.{givenOptional};
+ghost use Rattle.splice.specs.Kinds.{delta};
+ghost use Rattle.splice.specs.Ready.{HasRow, Ready, Fits, Replaced, Good, Writable, putBehind, Finished};
+use block_frame::put_frame;
+use encoding::Answer;
+use splice::Planned;
+use splice::Spliced;
+
+// A given reading's value in its slot: that of an absent one is 0 there, whatever was given.
+fn held_i64(v: i64, flag: u8) -> i64
+    ensures { λ r. ⌜ r ≡ slotIn (pos 0) (given flag v) ⌝ }
+{
+    if flag == 0 {
+        return 0;
+    }
+    v
+}
+
+// The new readings in the slots from `at` on.
+fn put_new_i64(values: &mut [i64], at: usize, new: &[i64], flags: &[u8])
+    requires { ⌜ (at + length (now new) ≤ length (now values)) × (length (now flags) ≡ length (now new)) ⌝ }
+    ensures { λ _. ⌜ now (values .exit) ≡ paste (now (values .entry)) at (map (slotIn (pos 0)) (slotList (now (new .entry)) (now (flags .entry)))) (length (now (new .entry))) ⌝ }
+{
+    let mut i: usize = 0;
+    while i < new.len() {
+        values[at + i] = held_i64(new[i], flags[i]);
+        i += 1;
+    }
+}
+
+// The new list in slots that hold the old one.
+fn replace_i64(
+    values: &mut [i64],
+    present: &mut [u8],
+    old: usize,
+    start: usize,
+    end: usize,
+    new: &[i64],
+    flags: &[u8],
+)
+    requires { ⌜ Fits start end old (length (now new)) (length (now flags)) (length (now values)) (length (now present)) ⌝ }
+    ensures { λ _. ⌜ Replaced (pos 0) old start end (now (new .entry)) (now (flags .entry)) (now (values .entry)) (now (values .exit)) (now (present .entry)) (now (present .exit)) ⌝ }
+{
+    slots_i64::splice_i64(values, old, start, end, new);
+    slots_u8::splice_u8(present, old, start, end, flags);
+    put_new_i64(values, start, new, flags);
+}
+
+// The old list into the slots.
+fn load_i64(block: &[u8], at: usize, till: usize, values: &mut [i64], present: &mut [u8]) -> Answer
+    requires { ⌜ (at ≤ till) × (till ≤ length (now block)) ⌝ }
+    ensures { λ r. ⌜ Decoded (deltaTrace (take (till - at) (drop at (now (block .entry))))) (slotOf (pos 0)) flagOf
+        (now (values .entry)) (now (values .exit)) (now (present .entry)) (now (present .exit)) (answerOf r) ⌝ }
+{
+    delta_decoder::decode(&block[at..till], values, present)
+}
+
+// The list as a column, in the part of the output behind the new table and the earlier columns.
+fn fill_i64(values: &[i64], present: &[u8], out: &mut [u8], at: usize)
+    requires { ⌜ Writable delta (slotList (now values) (now present)) (length (now values)) (now present) at (length (now out)) ⌝ }
+    ensures { λ _. ⌜ now (out .exit) ≡ putBehind at (delta .writes (slotList (now (values .entry)) (now (present .entry)))) (now (out .entry)) ⌝ }
+{
+    delta_encoder::encode(values, present, &mut out[at..]);
+}
+
+// The new block around a column of so many bytes.
+fn put_i64(
+    block: &[u8],
+    position: usize,
+    size: usize,
+    values: &[i64],
+    present: &[u8],
+    out: &mut [u8],
+) -> Spliced
+    requires { ⌜ HasRow (now block) position ⌝ }
+    requires { ⌜ Good (length (now values)) (now present) ⌝ }
+    requires { ⌜ (size ≡ length (delta .writes (slotList (now values) (now present)))) × (delta .wide (slotList (now values) (now present)) ≡ none) ⌝ }
+    ensures { λ r. ⌜ Finished delta (now (block .entry)) position (slotList (now (values .entry)) (now (present .entry))) (now (out .entry)) (now (out .exit)) r ⌝ }
+{
+    let frame = put_frame(block, position, size, out);
+    if frame.number != 0 {
+        return splice::refused(frame.number, frame.place);
+    }
+    let at = frame.at;
+    fill_i64(values, present, out, at);
+    splice::accepted(out, frame.len)
+}
+
+// 7, 10, or the new block, for the list that stands in the slots.
+fn write_i64(
+    block: &[u8],
+    position: usize,
+    values: &[i64],
+    present: &[u8],
+    out: &mut [u8],
+) -> Spliced
+    requires { ⌜ HasRow (now block) position ⌝ }
+    requires { ⌜ Good (length (now values)) (now present) ⌝ }
+    ensures { λ r. ⌜ Finished delta (now (block .entry)) position (slotList (now (values .entry)) (now (present .entry))) (now (out .entry)) (now (out .exit)) r ⌝ }
+{
+    match delta_encoder::encoded_len(values, present) {
+        Answer::Done(size) => put_i64(block, position, size as usize, values, present, out),
+        Answer::Refused(n, place) => splice::refused(n, place),
+    }
+}
+
+// The same for the slots' first `len`.
+fn finish_i64(
+    block: &[u8],
+    position: usize,
+    len: usize,
+    values: &[i64],
+    present: &[u8],
+    out: &mut [u8],
+) -> Spliced
+    requires { ⌜ HasRow (now block) position ⌝ }
+    requires { ⌜ (len ≤ length (now values)) × (len ≤ length (now present)) ⌝ }
+    requires { ⌜ Good (length (take len (now values))) (take len (now present)) ⌝ }
+    ensures { λ r. ⌜ Finished delta (now (block .entry)) position (slotList (take len (now (values .entry))) (take len (now (present .entry)))) (now (out .entry)) (now (out .exit)) r ⌝ }
+{
+    write_i64(block, position, &values[..len], &present[..len], out)
+}
+
+// An edit that is ready.
+fn edit_i64(
+    block: &[u8],
+    position: usize,
+    at: usize,
+    till: usize,
+    old: usize,
+    len: usize,
+    start: usize,
+    end: usize,
+    new: &[i64],
+    flags: &[u8],
+    values: &mut [i64],
+    present: &mut [u8],
+    out: &mut [u8],
+) -> Spliced
+    requires { ⌜ Ready delta (now block) position start end (length (now new)) (length (now values)) at till old len ⌝ }
+    requires { ⌜ givenOptional (length (now values)) (length (now present)) (length (now new)) (now flags) ≡ done 0 ⌝ }
+    ensures { λ r. ⌜ OptionalSpliced delta (pos 0) (now (block .entry)) position start end (now (new .entry)) (now (flags .entry))
+        (now (values .entry)) (now (values .exit)) (now (present .entry)) (now (present .exit)) (now (out .entry)) (now (out .exit)) r ⌝ }
+{
+    load_i64(block, at, till, values, present);
+    replace_i64(
+        values,
+        present,
+        old,
+        start,
+        splice::least(end, old),
+        new,
+        flags,
+    );
+    finish_i64(block, position, len, values, present, out)
+}
+
+// The readings from start up to end of the column at a position replaced by the new ones.
+pub fn splice_delta(
+    block: &[u8],
+    position: usize,
+    start: usize,
+    end: usize,
+    new: &[i64],
+    flags: &[u8],
+    values: &mut [i64],
+    present: &mut [u8],
+    out: &mut [u8],
+) -> Spliced
+    ensures { λ r. ⌜ OptionalSpliced delta (pos 0) (now (block .entry)) position start end (now (new .entry)) (now (flags .entry))
+        (now (values .entry)) (now (values .exit)) (now (present .entry)) (now (present .exit)) (now (out .entry)) (now (out .exit)) r ⌝ }
+{
+    match splice::plan(
+        block,
+        position,
+        splice::DELTA,
+        splice::DELTA,
+        start,
+        end,
+        new.len(),
+        flags,
+        values.len(),
+        present.len(),
+    ) {
+        Planned::Ready(at, till, old, len) => edit_i64(
+            block,
+            position,
+            at,
+            till,
+            old,
+            len,
+            start,
+            end,
+            new,
+            flags,
+            values,
+            present,
+            out,
+        ),
+        Planned::Refused(n, place) => splice::refused(n, place),
+    }
+}

@@ -1,0 +1,24 @@
+-- `picture::stretches::with_value` meets its contract: the first value, or one behind others. Assumes nothing.
+use Rattle.picture.proofs.Ranges.{value-first, value-more}
+use borrow.Author.Needs.{needs}
+use Rattle.picture.proofs.stretches.with_value.Statement.{statement}
+use Rattle.picture.proofs.stretches.with_value.Tie as tie
+
+returns : tie.Need-returns
+returns c = λ xs e. value-first (c .before .before .args .s) (c .before .before .args .value) xs e (search needs)
+
+least-requires : tie.Need-least-requires
+least-requires c κs = search needs
+
+greatest-requires : tie.Need-greatest-requires
+greatest-requires c κs = search needs
+
+add-t6 : tie.Need-add-t6
+add-t6 c = search needs
+
+returns-2 : tie.Need-returns-2
+returns-2 c = λ xs e.
+    value-more (c .before .before .before .before .before .args .s) (c .before .before .before .before .before .args .value) xs e (c .before .before .least .result) (c .before .greatest .result) (search needs) (search needs) (search needs)
+
+pub with-value-spec : {M : Type 1} → statement M
+with-value-spec = tie.close (tie.spec returns least-requires greatest-requires add-t6 returns-2)

@@ -1,0 +1,66 @@
+-- `raw_column::in_order` meets its contract: what is owed of the rows from i on is what was owed of all. Assumes nothing.
+use mathlib.Core.Path.{_≡_, refl, sym, _∙_}
+use Prim.Native.Nat.{_-_, _≤_, zero-le}
+use native.Mathlib.Omega.{arith}
+use lib.ListN.{take, drop}
+use borrow.Author.Needs.{needs}
+use denote.Ref.{now}
+use Rattle.raw_column.specs.Table.{inOrder}
+use Rattle.raw_column.proofs.Opening.{order-on, order-falls, order-end}
+use Rattle.raw_column.proofs.in_order.Statement.{statement}
+use Rattle.raw_column.proofs.in_order.Tie as tie
+
+abbrev Inv-loop : tie.InvT-loop
+Inv-loop specs n last₀ i₀ last i = (i ≤ n) × (inOrder last (drop i (take n specs)) ≡ inOrder 0 (take n specs))
+
+abbrev μ-loop : tie.MeasureT-loop
+μ-loop specs n last₀ i₀ last i = n - i
+
+loop-holds : tie.Need-loop-holds Inv-loop μ-loop
+loop-holds c = (zero-le, refl)
+
+mul-t7 : tie.Need-mul-t7 Inv-loop μ-loop
+mul-t7 c = search needs
+
+shared-slice-read-t9 : tie.Need-shared-slice-read-t9 Inv-loop μ-loop
+shared-slice-read-t9 c = search needs
+
+normalize-requires : tie.Need-normalize-requires Inv-loop μ-loop
+normalize-requires c κs = search needs
+
+returns : tie.Need-returns Inv-loop μ-loop
+returns c =
+    let a = c .before .before .before .before .before .before .args in
+    sym (order-falls (now (a .specs)) (a .n) (c .before .before .before .before .loop .i) (omega arith) (omega arith) (c .before .normalize .ensures) (c .if1 .taken)) ∙ c .before .before .before .before .loop .inv .1
+
+add-i : tie.Need-add-i Inv-loop μ-loop
+add-i c = search needs
+
+loop-less : tie.Need-loop-less Inv-loop μ-loop
+loop-less c = search needs
+
+loop-again : tie.Need-loop-again Inv-loop μ-loop
+loop-again c =
+    let a = c .before .before .before .before .before .before .args in
+    (omega arith, sym (order-on (now (a .specs)) (a .n) (c .before .before .before .before .loop .i) (omega arith) (omega arith) (c .before .normalize .ensures) (c .if1 .left)) ∙ c .before .before .before .before .loop .inv .1)
+
+returns-2 : tie.Need-returns-2 Inv-loop μ-loop
+returns-2 c =
+    let a = c .before .before .before .args in
+    sym (order-end (now (a .specs)) (a .n) (c .before .loop .i) (c .before .loop .last) (c .loop-test .left)) ∙ c .before .loop .inv .1
+
+pub in-order-spec : {M : Type 1} → statement M
+in-order-spec =
+    tie.close
+    (tie.spec
+    Inv-loop
+    μ-loop
+    loop-holds
+    mul-t7
+    shared-slice-read-t9
+    normalize-requires
+    returns
+    add-i
+    loop-less
+    loop-again
+    returns-2)

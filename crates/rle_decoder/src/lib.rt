@@ -1,0 +1,217 @@
+// Reading a run-length column of optional u64, an Actor or Integer column (the decoder of the crate's columnar/encoding/rle.rs): its
+// readings counted in one pass over its bytes, whatever the counts say, or decoded into lent slots.
+ghost use mathlib.Core.Path.{_≡_};
+ghost use Prim.Native.Nat.{_+_, _≤_, _<_};
+ghost use lib.ListN.{length, replicate};
+ghost use lib.Seq.{sets};
+ghost use Rattle.leb128.specs.Read.{u64At};
+ghost use Rattle.encoding.specs.Answers.{answerOf};
+ghost use Rattle.encoding.specs.Column.{spot, repeated, singles, runAt, trace};
+ghost use Rattle.encoding.specs.Limit.{limit};
+ghost use Rattle.encoding.specs.Slots.{slotOf, flagOf, Decoded, Room, Wrote};
+ghost use Rattle.encoding.specs.Walk.{outcome};
+ghost use Rattle.rle_decoder.specs.Answers.{stepOf};
+ghost use Rattle.rle_decoder.specs.Word.{u64E};
+use encoding::Answer;
+use encoding::Head;
+use leb128::ParsedU64;
+
+// Behind a run: the next position and how many readings came so far; or the run's fault.
+enum Step {
+    On(usize, u64),
+    Off(u8, usize),
+}
+
+// A repeated run of c readings, whose value stands at q.
+fn scan_repeat(s: &[u8], q: usize, had: u64, c: u64) -> Step
+    requires { ⌜ had + c ≤ limit ⌝ }
+    ensures { λ r. ⌜ stepOf r ≡ repeated had c q (u64At (now (s .entry)) q) .next ⌝ }
+{
+    match leb128::leb128_u64(s, q) {
+        ParsedU64::Number(_, next) => Step::On(next, had + c),
+        ParsedU64::Refused(n, place) => Step::Off(n, place),
+    }
+}
+
+// c values singly, from q on, behind which there are `total` readings.
+fn scan_singles(s: &[u8], q: usize, total: u64, c: u64) -> Step
+    ensures { λ r. ⌜ stepOf r ≡ singles u64E (now (s .entry)) total c q .next ⌝ }
+{
+    let mut at = q;
+    let mut left = c;
+    while 0 < left {
+        match leb128::leb128_u64(s, at) {
+            ParsedU64::Number(_, next) => {
+                at = next;
+                left -= 1;
+            }
+            ParsedU64::Refused(n, place) => {
+                return Step::Off(n, place);
+            }
+        }
+    }
+    Step::On(at, total)
+}
+
+// The run at `at`, before which there are `had` readings.
+fn scan_run(s: &[u8], at: usize, had: u64) -> Step
+    requires { ⌜ (at < length (now s)) × (had ≤ limit) ⌝ }
+    ensures { λ r. ⌜ stepOf r ≡ runAt u64E (now (s .entry)) (spot at had) .next ⌝ }
+{
+    match run_head::head_at(s, at, had) {
+        Head::Again(c, q) => scan_repeat(s, q, had, c),
+        Head::Singly(c, q) => scan_singles(s, q, had + c, c),
+        Head::Gone(c, next) => Step::On(next, had + c),
+        Head::Amiss(n, place) => Step::Off(n, place),
+    }
+}
+
+// How many readings a column has, or its first fault.
+pub fn count(s: &[u8]) -> Answer
+    ensures { λ r. ⌜ answerOf r ≡ outcome (trace u64E (now (s .entry))) ⌝ }
+{
+    let mut at: usize = 0;
+    let mut had: u64 = 0;
+    while at < s.len() {
+        match scan_run(s, at, had) {
+            Step::On(next, n) => {
+                at = next;
+                had = n;
+            }
+            Step::Off(n, place) => {
+                return Answer::Refused(n, place);
+            }
+        }
+    }
+    Answer::Done(had)
+}
+
+// The same reading in c slots from `from` on.
+fn fill_same(values: &mut [u64], present: &mut [u8], from: usize, c: u64, v: u64, p: u8)
+    requires { ⌜ (from + c ≤ length (now values)) × (length (now present) ≡ length (now values)) ⌝ }
+    ensures { λ _. ⌜ (now (values .exit) ≡ sets (now (values .entry)) from (replicate c v))
+        × (now (present .exit) ≡ sets (now (present .entry)) from (replicate c p)) ⌝ }
+{
+    let mut i = from;
+    let mut left = c;
+    while 0 < left {
+        values[i] = v;
+        present[i] = p;
+        i += 1;
+        left -= 1;
+    }
+}
+
+// A repeated run of c readings, whose value stands at q.
+fn fill_repeat(s: &[u8], q: usize, had: u64, c: u64, values: &mut [u64], present: &mut [u8]) -> Step
+    requires { ⌜ had + c ≤ limit ⌝ }
+    requires { ⌜ Room (repeated had c q (u64At (now s) q) .readings) had (now values) (now present) ⌝ }
+    ensures { λ r. ⌜ stepOf r ≡ repeated had c q (u64At (now (s .entry)) q) .next ⌝ }
+    ensures { λ r. ⌜ Wrote (slotOf 0) flagOf (repeated had c q (u64At (now (s .entry)) q) .readings) had
+        (now (values .entry)) (now (values .exit)) (now (present .entry)) (now (present .exit)) ⌝ }
+{
+    match leb128::leb128_u64(s, q) {
+        ParsedU64::Number(v, next) => {
+            fill_same(values, present, had as usize, c, v, 1);
+            Step::On(next, had + c)
+        }
+        ParsedU64::Refused(number, place) => Step::Off(number, place),
+    }
+}
+
+// c values singly, from q on.
+fn fill_singles(
+    s: &[u8],
+    q: usize,
+    total: u64,
+    c: u64,
+    from: usize,
+    values: &mut [u64],
+    present: &mut [u8],
+) -> Step
+    requires { ⌜ Room (singles u64E (now s) total c q .readings) from (now values) (now present) ⌝ }
+    ensures { λ r. ⌜ stepOf r ≡ singles u64E (now (s .entry)) total c q .next ⌝ }
+    ensures { λ r. ⌜ Wrote (slotOf 0) flagOf (singles u64E (now (s .entry)) total c q .readings) from
+        (now (values .entry)) (now (values .exit)) (now (present .entry)) (now (present .exit)) ⌝ }
+{
+    let mut at = q;
+    let mut i = from;
+    let mut left = c;
+    while 0 < left {
+        match leb128::leb128_u64(s, at) {
+            ParsedU64::Number(v, next) => {
+                values[i] = v;
+                present[i] = 1;
+                at = next;
+                i += 1;
+                left -= 1;
+            }
+            ParsedU64::Refused(number, place) => {
+                return Step::Off(number, place);
+            }
+        }
+    }
+    Step::On(at, total)
+}
+
+// The run at `at`, before which there are `had` readings.
+fn fill_run(s: &[u8], at: usize, had: u64, values: &mut [u64], present: &mut [u8]) -> Step
+    requires { ⌜ (at < length (now s)) × (had ≤ limit) ⌝ }
+    requires { ⌜ Room (runAt u64E (now s) (spot at had) .readings) had (now values) (now present) ⌝ }
+    ensures { λ r. ⌜ stepOf r ≡ runAt u64E (now (s .entry)) (spot at had) .next ⌝ }
+    ensures { λ r. ⌜ Wrote (slotOf 0) flagOf (runAt u64E (now (s .entry)) (spot at had) .readings) had
+        (now (values .entry)) (now (values .exit)) (now (present .entry)) (now (present .exit)) ⌝ }
+{
+    match run_head::head_at(s, at, had) {
+        Head::Again(c, q) => fill_repeat(s, q, had, c, values, present),
+        Head::Singly(c, q) => fill_singles(s, q, had + c, c, had as usize, values, present),
+        Head::Gone(c, next) => {
+            fill_same(values, present, had as usize, c, 0, 0);
+            Step::On(next, had + c)
+        }
+        Head::Amiss(number, place) => Step::Off(number, place),
+    }
+}
+
+// The readings before the first faulty one, into the first slots; and how the column ends.
+fn fill(s: &[u8], values: &mut [u64], present: &mut [u8]) -> Answer
+    requires { ⌜ Room (trace u64E (now s) .readings) 0 (now values) (now present) ⌝ }
+    ensures { λ r. ⌜ answerOf r ≡ outcome (trace u64E (now (s .entry))) ⌝ }
+    ensures { λ r. ⌜ Wrote (slotOf 0) flagOf (trace u64E (now (s .entry)) .readings) 0
+        (now (values .entry)) (now (values .exit)) (now (present .entry)) (now (present .exit)) ⌝ }
+{
+    let mut at: usize = 0;
+    let mut filled: u64 = 0;
+    while at < s.len() {
+        match fill_run(s, at, filled, values, present) {
+            Step::On(next, n) => {
+                at = next;
+                filled = n;
+            }
+            Step::Off(number, place) => {
+                return Answer::Refused(number, place);
+            }
+        }
+    }
+    Answer::Done(filled)
+}
+
+// The whole column into lent slots.
+pub fn decode(s: &[u8], values: &mut [u64], present: &mut [u8]) -> Answer
+    ensures { λ r. ⌜ Decoded (trace u64E (now (s .entry))) (slotOf 0) flagOf
+        (now (values .entry)) (now (values .exit)) (now (present .entry)) (now (present .exit)) (answerOf r) ⌝ }
+{
+    if values.len() != present.len() {
+        return Answer::Refused(8, 0);
+    }
+    match count(s) {
+        Answer::Done(n) => {
+            if n <= values.len() as u64 {
+                fill(s, values, present)
+            } else {
+                Answer::Refused(9, 0)
+            }
+        }
+        Answer::Refused(n, place) => Answer::Refused(n, place),
+    }
+}

@@ -1,0 +1,41 @@
+-- `rle_range::fill_u64` meets its contract: the column at the front of the part that is lent. Assumes nothing.
+use native.Mathlib.Omega.{arith}
+use denote.Ref.{now}
+use lib.ListN.{length, drop, length-drop}
+use lib.Seq.{length-take-le}
+use Prim.Native.Nat.{_-_}
+use Rattle.splice.specs.Kinds.{integer}
+use Rattle.encoding.specs.Given.{slotList}
+use Rattle.splice.proofs.Writing.{good-judged, encoded-fits, lent-back}
+use borrow.Author.Needs.{needs}
+use Rattle.rle_range.proofs.fill_u64.Statement.{statement}
+use Rattle.rle_range.proofs.fill_u64.Tie as tie
+
+sub-encode : tie.Need-sub-encode
+sub-encode c = omega (arith, c .before .before .before .pre .room)
+
+part-encode-start : tie.Need-part-encode-start
+part-encode-start c = omega (arith, c .before .before .before .pre .room)
+
+part-encode-end : tie.Need-part-encode-end
+part-encode-end c = search needs
+
+encode-requires : tie.Need-encode-requires
+encode-requires c κs = search needs
+
+same-length : tie.Need-same-length
+same-length c = search needs
+
+returns : tie.Need-returns
+returns c =
+    let a = c .before .before .before .before .before .before .before .args in
+    let o = now (a .out) in
+    let p = c .before .before .before .before .before .before .before .pre in
+    let l = length-take-le (length o - a .at) (drop (a .at) o) (omega (arith, length-drop (a .at) o)) in
+    lent-back (a .at) o _ (integer .writes (slotList (now (a .values)) (now (a .present)))) (omega (arith, p .room))
+    (encoded-fits (c .before .before .encode .ensures) (good-judged (p .good)) (omega (arith, p .room, l, length-drop (a .at) o)))
+
+pub fill-u64-spec : {M : Type 1} → statement M
+fill-u64-spec =
+    tie.close
+    (tie.spec sub-encode part-encode-start part-encode-end encode-requires same-length returns)

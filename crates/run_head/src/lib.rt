@@ -1,0 +1,85 @@
+// How a run of a run-length column begins, the same for every element: its count read, and judged for 5.
+ghost use mathlib.Core.Path.{_≡_};
+ghost use Prim.Native.Nat.{_+_};
+ghost use lib.Dec.{leb};
+ghost use lib.IntN.{natAbs};
+ghost use Rattle.leb128.specs.Read.{u64At};
+ghost use Rattle.encoding.specs.Limit.{limit};
+ghost use Rattle.encoding.specs.Head.{again, singly, judged, goneHead, headAt};
+ghost use Rattle.encoding.specs.Answers.{headOf};
+use encoding::Head;
+use encoding::LIMIT;
+use leb128::ParsedI64;
+use leb128::ParsedU64;
+
+// May c readings follow `had` others?
+fn may_follow(had: u64, c: u64) -> bool
+    ensures { λ r. ⌜ r ≡ leb (had + c) limit ⌝ }
+{
+    if had <= LIMIT {
+        return c <= LIMIT - had;
+    }
+    false
+}
+
+// The second number of an absent run, at q.
+fn gone_at(s: &[u8], q: usize, had: u64) -> Head
+    ensures { λ r. ⌜ headOf r ≡ goneHead had q (u64At (now (s .entry)) q) ⌝ }
+{
+    match leb128::leb128_u64(s, q) {
+        ParsedU64::Number(c, next) => {
+            if may_follow(had, c) {
+                Head::Gone(c, next)
+            } else {
+                Head::Amiss(5, q)
+            }
+        }
+        ParsedU64::Refused(n, place) => Head::Amiss(n, place),
+    }
+}
+
+// A run of c readings whose count stands at `at`, before q.
+fn again_at(at: usize, had: u64, c: u64, q: usize) -> Head
+    ensures { λ r. ⌜ headOf r ≡ judged had c at (again c q) ⌝ }
+{
+    if may_follow(had, c) {
+        Head::Again(c, q)
+    } else {
+        Head::Amiss(5, at)
+    }
+}
+
+fn singly_at(at: usize, had: u64, c: u64, q: usize) -> Head
+    ensures { λ r. ⌜ headOf r ≡ judged had c at (singly c q) ⌝ }
+{
+    if may_follow(had, c) {
+        Head::Singly(c, q)
+    } else {
+        Head::Amiss(5, at)
+    }
+}
+
+// How many readings a signed count announces.
+fn count_of(c: i64) -> u64
+    ensures { λ r. ⌜ r ≡ natAbs c ⌝ }
+{
+    if c < 0 { !c as u64 + 1 } else { c as u64 }
+}
+
+// How the run at `at` begins, before which there are `had` readings.
+pub fn head_at(s: &[u8], at: usize, had: u64) -> Head
+    ensures { λ r. ⌜ headOf r ≡ headAt (now (s .entry)) at had ⌝ }
+{
+    match leb128::leb128_i64(s, at) {
+        ParsedI64::Number(c, q) => {
+            if c < 0 {
+                return singly_at(at, had, count_of(c), q);
+            }
+            if c == 0 {
+                return gone_at(s, q, had);
+            }
+            again_at(at, had, count_of(c), q)
+        }
+        ParsedI64::Refused(n, place) => Head::Amiss(n, place),
+    }
+}

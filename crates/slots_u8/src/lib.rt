@@ -1,0 +1,108 @@
+// Replacing a range of a list of u8 in lent slots, in place.
+ghost use mathlib.Core.Path.{_≡_};
+ghost use Prim.Native.Nat.{_+_, _-_, _≤_};
+ghost use lib.ListN.{length, take, drop, replicate};
+ghost use lib.Seq.{paste};
+ghost use Rattle.encoding.specs.Answers.{answerOf};
+ghost use Rattle.slots.specs.Splice.{spliced, inSlots, splicedSlots, spliceAnswer};
+use encoding::Answer;
+
+fn move_down_u8(s: &mut [u8], from: usize, to: usize, n: usize)
+    requires { ⌜ (to ≤ from) × (from + n ≤ length (now s)) ⌝ }
+    ensures { λ _. ⌜ now (s .exit) ≡ paste (now (s .entry)) to (drop from (now (s .entry))) n ⌝ }
+{
+    let mut i: usize = 0;
+    while i < n {
+        let v = s[from + i];
+        s[to + i] = v;
+        i += 1;
+    }
+}
+
+fn move_up_u8(s: &mut [u8], from: usize, to: usize, n: usize)
+    requires { ⌜ (from ≤ to) × (to + n ≤ length (now s)) ⌝ }
+    ensures { λ _. ⌜ now (s .exit) ≡ paste (now (s .entry)) to (drop from (now (s .entry))) n ⌝ }
+{
+    let mut i: usize = n;
+    while 0 < i {
+        i = i - 1;
+        let v = s[from + i];
+        s[to + i] = v;
+    }
+}
+
+// n elements from `from` on, to `to` on.
+fn move_u8(s: &mut [u8], from: usize, to: usize, n: usize)
+    requires { ⌜ (from + n ≤ length (now s)) × (to + n ≤ length (now s)) ⌝ }
+    ensures { λ _. ⌜ now (s .exit) ≡ paste (now (s .entry)) to (drop from (now (s .entry))) n ⌝ }
+{
+    if to <= from {
+        move_down_u8(s, from, to, n);
+        return;
+    }
+    move_up_u8(s, from, to, n);
+}
+
+fn put_u8(s: &mut [u8], at: usize, new: &[u8])
+    requires { ⌜ at + length (now new) ≤ length (now s) ⌝ }
+    ensures { λ _. ⌜ now (s .exit) ≡ paste (now (s .entry)) at (now (new .entry)) (length (now (new .entry))) ⌝ }
+{
+    let mut i: usize = 0;
+    while i < new.len() {
+        s[at + i] = new[i];
+        i += 1;
+    }
+}
+
+fn clear_u8(s: &mut [u8], at: usize, end: usize)
+    requires { ⌜ (at ≤ end) × (end ≤ length (now s)) ⌝ }
+    ensures { λ _. ⌜ now (s .exit) ≡ paste (now (s .entry)) at (replicate (end - at) 0) (end - at) ⌝ }
+{
+    let mut i = at;
+    while i < end {
+        s[i] = 0;
+        i += 1;
+    }
+}
+
+// The splice where there is room for it.
+fn place_u8(s: &mut [u8], old: usize, start: usize, end: usize, new: &[u8]) -> usize
+    requires { ⌜ (start ≤ end) × (end ≤ old) × (old ≤ length (now s)) × (start + length (now new) + (old - end) ≤ length (now s)) ⌝ }
+    ensures { λ r. ⌜ (r ≡ start + length (now (new .entry)) + (old - end))
+        × (now (s .exit) ≡ inSlots 0 (now (s .entry)) old (spliced (take old (now (s .entry))) start end (now (new .entry)))) ⌝ }
+{
+    let to = start + new.len();
+    let n = old - end;
+    move_u8(s, end, to, n);
+    put_u8(s, start, new);
+    let len = to + n;
+    if len < old {
+        clear_u8(s, len, old);
+        return len;
+    }
+    len
+}
+
+// The first `old` elements of s are a list, of which those from start up to end are replaced by new: the new list's length.
+pub fn splice_u8(s: &mut [u8], old: usize, start: usize, end: usize, new: &[u8]) -> Answer
+    ensures { λ r. ⌜ answerOf r ≡ spliceAnswer (length (now (s .entry))) old start end (length (now (new .entry))) ⌝ }
+    ensures { λ _. ⌜ now (s .exit) ≡ splicedSlots 0 (spliceAnswer (length (now (s .entry))) old start end (length (now (new .entry))))
+        (now (s .entry)) old start end (now (new .entry)) ⌝ }
+{
+    if end < start {
+        return Answer::Refused(18, 0);
+    }
+    if old < end {
+        return Answer::Refused(18, 0);
+    }
+    if s.len() < old {
+        return Answer::Refused(9, 0);
+    }
+    if s.len() - start < new.len() {
+        return Answer::Refused(9, 0);
+    }
+    if s.len() - start - new.len() < old - end {
+        return Answer::Refused(9, 0);
+    }
+    Answer::Done(place_u8(s, old, start, end, new) as u64)
+}
