@@ -160,7 +160,7 @@ grundavok_counted grundavok_write_i64(int64_t x, uint8_t *out, size_t out_len);
  * col_type count. Refusal: 19. */
 grundavok_specification grundavok_spec_new(uint32_t id, uint8_t col_type, bool deflate);
 
-/* The id, the type's number, the compressed bit, and the sorting key (the specification with mask 0xF7). No refusal. */
+/* The id, the type's number, the compressed bit, and the sorting key (the specification with the compressed bit cleared). No refusal. */
 uint32_t grundavok_spec_id(uint32_t spec);
 uint8_t grundavok_spec_col_type(uint32_t spec);
 bool grundavok_spec_deflate(uint32_t spec);

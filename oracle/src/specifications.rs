@@ -21,7 +21,12 @@ pub fn deflate(spec: u32) -> bool {
     ColumnSpec::from(spec).deflate()
 }
 
-/// The sorting key: the least specification that the crate's order does not tell from this one. (The key's own field is
+/// Ours, from document 02, [2]: the whole specification with only the compressed bit cleared.
+pub fn whole_key(spec: u32) -> u32 {
+    spec & !8
+}
+
+/// The crate's sorting key: the least specification that its order does not tell from this one. (The key's own field is
 /// private; that it is the low byte with bit 3 cleared is what `tests/doc01.rs` checks.)
 pub fn key(spec: u32) -> u32 {
     (0..=spec)

@@ -177,9 +177,22 @@ fn the_edit_of_document_01() {
     assert_eq!(spliced, Ok(vec![0x7d, 0xd0, 0x00, 0x01, 0x7f]));
 }
 
-/// The sorting key of document 01.
+/// The crate's sorting key, which document 01 took over and document 02, [2], does not.
 fn key(spec: u32) -> u32 {
     spec & 0xf7
+}
+
+/// The difference to record: where the crate's key and the whole specification tell two columns' order apart.
+#[test]
+fn the_keys_order_alike_below_id_16_only() {
+    let order = |a, b| specifications::whole_key(a).cmp(&specifications::whole_key(b));
+    for a in 0..0x100 {
+        for b in 0..0x100 {
+            assert_eq!(specifications::order(a, b), order(a, b));
+        }
+    }
+    assert!(specifications::order(0x13, 0x102).is_gt() && order(0x13, 0x102).is_lt());
+    assert!(specifications::order(0x112, 0x13).is_lt() && order(0x112, 0x13).is_gt());
 }
 
 #[test]

@@ -11,6 +11,6 @@ void specifications(void) {
     NUMBER(grundavok_spec_col_type(0x1b), 3);
     NUMBER(grundavok_spec_deflate(0x1b), true);
     NUMBER(grundavok_spec_deflate(0x13), false);
-    NUMBER(grundavok_spec_normalize(0x112), 0x12);
+    NUMBER(grundavok_spec_normalize(0x11a), 0x112);
     NUMBER(grundavok_spec_normalize(0x1b), 0x13);
 }

@@ -45,7 +45,7 @@ mod calls {
             (spec.0, spec.id(), spec.col_type(), spec.deflate()),
             (0x103, 16, ColumnType::DeltaInteger, false)
         );
-        assert_eq!(ColumnSpec(0x112).normalize(), 0x12);
+        assert_eq!(ColumnSpec(0x11a).normalize(), 0x112);
         assert_eq!(ColumnSpec::new(1 << 28, ColumnType::Value, true), refused(19, 0));
     }
 

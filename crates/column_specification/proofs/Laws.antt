@@ -114,12 +114,17 @@ key-without-bit id number b c small =
     key-of-id-and-type (packed id number b) (packed id number c)
     (left .same-id ∙ sym (right .same-id)) (left .same-type ∙ sym (right .same-type))
 
--- of the mask 0xF7: the key is what the mask leaves, and a byte
-pub key-mask : (spec : ℕ) → key spec ≡ bitAnd spec 0xF7
-key-mask spec =
-    let split : spec / 16 * 2 ^ 4 + spec % 16 ≡ spec = omega arith in
-    let halves = and-block 4 (spec / 16) 15 (spec % 16) 7 (omega arith) (lit< tt) in
-    omega (arith, rw split at halves, and-mask (spec / 16) 4, and-mask (spec % 16) 3)
+-- columns stand by id, and those of one id by type
+pub key-by-id : (a b : ℕ) → idOf a < idOf b → key a < key b
+key-by-id a b h = omega arith
 
-pub key-below : (spec : ℕ) → key spec < 256
-key-below spec = omega arith
+pub key-by-type : (a b : ℕ) → idOf a ≡ idOf b → typeOf a < typeOf b → key a < key b
+key-by-type a b i t = omega arith
+
+-- the key of a u32 is what the mask 0xFFFFFFF7 leaves
+pub key-mask : (spec : ℕ) → spec < 2 ^ 32 → key spec ≡ bitAnd spec 0xFFFFFFF7
+key-mask spec h =
+    let split : spec / 16 * 2 ^ 4 + spec % 16 ≡ spec = omega arith in
+    let halves = and-block 4 (spec / 16) 0xFFFFFFF (spec % 16) 7 (omega arith) (lit< tt) in
+    let whole : bitAnd (spec / 16) 0xFFFFFFF ≡ spec / 16 = and-mask (spec / 16) 28 ∙ omega arith in
+    omega (arith, rw split at halves, whole, and-mask (spec % 16) 3)

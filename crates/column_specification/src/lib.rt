@@ -90,10 +90,10 @@ impl ColumnSpec {
         self.0 / 8 % 2 == 1
     }
 
-    // The sorting key.
+    // The sorting key. The Rust's mask keeps the low byte alone, so that ids from 16 up meet those below.
     pub fn normalize(self) -> u32
         ensures { λ r. ⌜ r ≡ key (self .0) ⌝ }
     {
-        self.0 % 8 + self.0 / 16 % 16 * 16
+        self.0 % 8 + self.0 / 16 * 16
     }
 }

@@ -17,7 +17,7 @@ the lists do not fit together\0\
 the column has more than the 32,768 readings that this tool takes\0\
 the new block is larger than the 262,144 bytes that this tool takes\0\
 there are more than 64 columns\0\
-the columns are not in order: by the id's remainder by 16, then by type\0\
+the columns are not in order: by id, then by type\0\
 a column is compressed\0\
 the columns are longer than the data\0\
 the columns are shorter than the data\0\

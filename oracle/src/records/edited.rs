@@ -138,8 +138,11 @@ fn finish(served: &Served, edit: &mut Edit, ready: &Ready) -> Result<usize, Faul
     Ok(length)
 }
 
-/// The record of an edit, where its column is among the records and a line holds it.
+/// The record of an edit, where its table and column are among the records and a line holds it.
 pub fn record(out: &mut String, served: &Served, mut edit: Edit) {
+    if !tables::is_ordered_alike(&edit.block) {
+        return;
+    }
     let record = Record::call(served.call)
         .bytes(&edit.block)
         .number(edit.position)

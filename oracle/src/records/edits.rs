@@ -3,11 +3,11 @@
 
 use super::columns::{all_lists, Slices};
 use super::edited::{new_column, ready, record, slices, Edit, Reading, Served};
-use super::tables::{chance_spec, damage, frame};
+use super::tables::{chance_spec, damage, frame, settle};
 use super::{boolean as booleans, comment, delta as deltas, optional, rle as integers, Options};
 use crate::numbers::write_u64;
 use crate::random::Random;
-use crate::{boolean, delta, rle, specifications, table};
+use crate::{boolean, delta, rle, table};
 
 /// The columns of a call, and their lists.
 struct Column {
@@ -248,21 +248,19 @@ fn chance_block(column: &Column, bytes: Vec<u8>, random: &mut Random) -> (Vec<u8
         0 => random.below(65),
         _ => random.below(4),
     };
-    let mut columns: Vec<(bool, (u32, Vec<u8>))> = (0..others)
-        .map(|_| {
-            let length = match random.below(12) {
-                0 => 125 + random.below(6),
-                _ => random.below(5),
-            };
-            let filler = random.byte();
-            let spec = chance_spec(random) & !8;
-            (false, (spec, vec![filler; length as usize]))
-        })
-        .collect();
-    columns.push((true, (own, bytes)));
-    columns.sort_by_key(|(_, (spec, _))| specifications::key(*spec));
-    let position = columns.iter().position(|(is_own, _)| *is_own).unwrap();
-    let columns: Vec<(u32, Vec<u8>)> = columns.into_iter().map(|(_, column)| column).collect();
+    let mut specs: Vec<u32> = (0..others).map(|_| chance_spec(random) & !8).collect();
+    specs.push(own);
+    let own = own & settle(&mut specs);
+    let position = specs.iter().position(|&spec| spec == own).unwrap();
+    let mut filler = || {
+        let length = match random.below(12) {
+            0 => 125 + random.below(6),
+            _ => random.below(5),
+        };
+        vec![random.byte(); length as usize]
+    };
+    let mut columns: Vec<(u32, Vec<u8>)> = specs.iter().map(|&spec| (spec, filler())).collect();
+    columns[position].1 = bytes;
     (block(&columns), position as u64)
 }
 

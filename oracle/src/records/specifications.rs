@@ -63,13 +63,18 @@ fn new(id: u32, col_type: u8, deflate: bool) -> Record {
         .number(deflate.into())
 }
 
+/// The key is not compared where the crate's is the low byte of a longer one.
 fn parts(out: &mut String, spec: u32) {
-    Record::call("spec_parts")
+    let record = Record::call("spec_parts")
         .number(spec.into())
         .accepted()
         .number(crates::id(spec).into())
         .number(crates::col_type(spec).into())
-        .number(crates::deflate(spec).into())
-        .number(crates::key(spec).into())
-        .end(out);
+        .number(crates::deflate(spec).into());
+    let key = crates::key(spec);
+    match key == crates::whole_key(spec) {
+        true => record.number(key.into()),
+        false => record.field('*'),
+    }
+    .end(out);
 }

@@ -4,7 +4,7 @@
 
 use super::columns::all_lists;
 use super::{comment, Options, Record};
-use crate::numbers::{leb128_u64, write_u64};
+use crate::numbers::{leb128_u32, leb128_u64, write_u64};
 use crate::random::Random;
 use crate::table::{self, Row};
 use crate::{specifications, Refusal};
@@ -29,6 +29,40 @@ pub fn refused(record: Record, (refusal, place): Fault) -> Record {
         Some(place) => record.refused_at(refusal, place),
         None => record.refused(refusal),
     }
+}
+
+/// The specifications of a table whose rows can be read, in their order.
+fn specs_of(block: &[u8]) -> Option<Vec<u32>> {
+    let (count, mut at) = leb128_u64(block).ok()?;
+    let mut specs = Vec::new();
+    for _ in 0..count.min(MOST as u64 + 1) {
+        let (spec, length) = leb128_u32(&block[at..]).ok()?;
+        at += length;
+        at += leb128_u64(&block[at..]).ok()?.1;
+        specs.push(spec as u32);
+    }
+    Some(specs)
+}
+
+/// Is the crate the judge of this table's order? Only where its key, the low byte, and ours fall in the same tables.
+pub fn is_ordered_alike(block: &[u8]) -> bool {
+    let Some(specs) = specs_of(block) else {
+        return true;
+    };
+    let falls = |key: fn(u32) -> u32| specs.windows(2).any(|w| key(w[1]) < key(w[0]));
+    falls(specifications::key) == falls(specifications::whole_key)
+}
+
+/// Puts specifications into our order, and where that is not the crate's too, their low bytes, which both keys order alike. Gives the
+/// mask that was applied.
+pub fn settle(specs: &mut [u32]) -> u32 {
+    specs.sort_by_key(|&spec| specifications::whole_key(spec));
+    if specs.is_sorted_by_key(|&spec| specifications::key(spec)) {
+        return u32::MAX;
+    }
+    specs.iter_mut().for_each(|spec| *spec &= 0xff);
+    specs.sort_by_key(|&spec| specifications::whole_key(spec));
+    0xff
 }
 
 /// The table of a block, checked in document 01's order.
@@ -73,6 +107,9 @@ pub fn row_lists(rows: &[Row]) -> [Vec<u64>; 3] {
 }
 
 fn read_table(out: &mut String, block: &[u8]) {
+    if !is_ordered_alike(block) {
+        return;
+    }
     let record = Record::call("read_table").bytes(block);
     match open(block) {
         Ok((start, rows)) => record
@@ -100,6 +137,9 @@ fn part(out: &mut String, record: Record, part: Result<(usize, &[u8]), Fault>) {
 }
 
 fn column(out: &mut String, block: &[u8], position: u64) {
+    if !is_ordered_alike(block) {
+        return;
+    }
     let record = Record::call("column").bytes(block).number(position);
     let found = row_at(block, position).map(|(_, row, at)| (at, &block[at..at + row.2]));
     part(out, record, found)
@@ -107,6 +147,9 @@ fn column(out: &mut String, block: &[u8], position: u64) {
 
 /// The part of a specification, where document 01 says that the Rust agrees.
 fn bytes(out: &mut String, block: &[u8], spec: u32) {
+    if !is_ordered_alike(block) {
+        return;
+    }
     let record = Record::call("bytes").bytes(block).number(u64::from(spec));
     let found = match open(block) {
         Ok((start, rows)) => {
@@ -153,6 +196,9 @@ pub fn frame(
 }
 
 fn put_frame(text: &mut String, block: &[u8], position: u64, size: u64, mut out: Vec<u8>) {
+    if !is_ordered_alike(block) {
+        return;
+    }
     let record = Record::call("put_frame")
         .bytes(block)
         .number(position)
@@ -200,7 +246,7 @@ fn block(rows: &[(u32, usize)], more: i64) -> Vec<u8> {
 
 pub fn all(out: &mut String, options: &Options, random: &mut Random) {
     comment(out, "the Rust: rows, parts, 1, 2, 3, 12 and 13; document 01: the block and the order of checks, 10 (a), 11 (b), 14 (e), 15 (f),");
-    comment(out, "16 (10) and put_frame. A lookup by specification where document 01 says that the Rust agrees");
+    comment(out, "16 (10) and put_frame. Tables that both keys order alike; a lookup by specification where document 01 says that the Rust agrees");
     comment(out, "all blocks of few bytes over ten telling ones");
     all_lists(TELLING.len(), if options.lean { 3 } else { 5 }, |kinds| {
         let bytes: Vec<u8> = kinds.iter().map(|&kind| TELLING[kind]).collect();
@@ -268,23 +314,22 @@ fn chance_rows(random: &mut Random) -> Vec<(u32, usize)> {
         0 => random.below(66),
         _ => random.below(6),
     };
-    let mut rows: Vec<(u32, usize)> = (0..count)
-        .map(|_| {
-            let length = match random.below(30) {
-                0 => random.below(300),
-                _ => random.below(5),
-            };
-            (chance_spec(random), length as usize)
-        })
-        .collect();
+    let mut specs: Vec<u32> = (0..count).map(|_| chance_spec(random)).collect();
     if random.below(12) > 0 {
-        rows.sort_by_key(|row| specifications::key(row.0));
+        settle(&mut specs);
     }
     // lookups want distinct keys
     if random.below(3) > 0 {
-        rows.dedup_by_key(|row| specifications::key(row.0));
+        specs.dedup_by_key(|spec| specifications::key(*spec));
     }
-    rows
+    let length = |random: &mut Random| match random.below(30) {
+        0 => random.below(300),
+        _ => random.below(5),
+    };
+    specs
+        .into_iter()
+        .map(|spec| (spec, length(random) as usize))
+        .collect()
 }
 
 /// One fault: a byte cut, changed, added or taken, or a number that is overlong, too large or very long.
