@@ -215,24 +215,35 @@ grundavok_frame grundavok_put_frame(const uint8_t *block, size_t block_len, size
 
 /* ---- Edits ---- */
 
-/* The readings from start up to end of the column at a position replaced by the new ones; an end past the list counts as its length. The
- * whole new block is written to the front of out. Served: integer Actor and Integer columns, delta DeltaInteger, boolean Boolean.
+/* The readings from start up to end of the column at a position replaced by the new ones; the calls with _to_end take all readings from start
+ * on. The whole new block is written to the front of out. Served: integer Actor and Integer columns, delta DeltaInteger, boolean Boolean.
  * Refusals, in this order: table faults; 16; 17; 18 for end below start; 8 (the lengths of new_values and new_present, or of values and
- * present; a byte above 1); the column's first fault (1, 2, 3, 5; of delta 6 too); 18 for start beyond the list; 5 for the result; 9 where
- * slots are fewer than the longer of old and new list; 7 (delta alone); 10.
+ * present; a byte above 1); the column's first fault (1, 2, 3, 5; of delta 6 too); 18 for start or end beyond the list; 5 for the result; 9
+ * where slots are fewer than the longer of old and new list; 7 (delta alone); 10.
  * On success, and on 7 or 10, the slots hold the new list, then absent zeros (booleans: 0) up to the old list's length where that was
  * longer, the rest unchanged. Any other refusal changes no slot. No refusal changes out. */
 grundavok_spliced grundavok_splice_integer(const uint8_t *block, size_t block_len, size_t position, size_t start, size_t end,
                                            const uint64_t *new_values, size_t new_values_len, const uint8_t *new_present,
                                            size_t new_present_len, uint64_t *values, size_t values_len, uint8_t *present,
                                            size_t present_len, uint8_t *out, size_t out_len);
+grundavok_spliced grundavok_splice_integer_to_end(const uint8_t *block, size_t block_len, size_t position, size_t start,
+                                                  const uint64_t *new_values, size_t new_values_len, const uint8_t *new_present,
+                                                  size_t new_present_len, uint64_t *values, size_t values_len, uint8_t *present,
+                                                  size_t present_len, uint8_t *out, size_t out_len);
 grundavok_spliced grundavok_splice_delta(const uint8_t *block, size_t block_len, size_t position, size_t start, size_t end,
                                          const int64_t *new_values, size_t new_values_len, const uint8_t *new_present,
                                          size_t new_present_len, int64_t *values, size_t values_len, uint8_t *present,
                                          size_t present_len, uint8_t *out, size_t out_len);
+grundavok_spliced grundavok_splice_delta_to_end(const uint8_t *block, size_t block_len, size_t position, size_t start,
+                                                const int64_t *new_values, size_t new_values_len, const uint8_t *new_present,
+                                                size_t new_present_len, int64_t *values, size_t values_len, uint8_t *present,
+                                                size_t present_len, uint8_t *out, size_t out_len);
 grundavok_spliced grundavok_splice_boolean(const uint8_t *block, size_t block_len, size_t position, size_t start, size_t end,
                                            const uint8_t *new_values, size_t new_values_len, uint8_t *values, size_t values_len,
                                            uint8_t *out, size_t out_len);
+grundavok_spliced grundavok_splice_boolean_to_end(const uint8_t *block, size_t block_len, size_t position, size_t start,
+                                                  const uint8_t *new_values, size_t new_values_len, uint8_t *values, size_t values_len,
+                                                  uint8_t *out, size_t out_len);
 
 /* The first `old` slots of `held` are a list; its elements from start up to end are replaced in place. count is the new list's length; the
  * slots behind it are 0 up to `old`, the rest unchanged. Refusals: 18 for end below start, or end beyond `old`; then 9 where slots are

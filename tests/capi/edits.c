@@ -18,6 +18,18 @@ static void delta_accepted(void) {
     LEFT(uint8_t, out, 0x01, 0x13, 0x05, 0x7d, 0xd0, 0x00, 0x01, 0x7f, OLD); /* the edit of document 01 */
 }
 
+/* From a start on: the same as up to the list's length. */
+static void delta_to_end(void) {
+    const grundavok_table table = {.specs = {0x13}, .lens = {4}, .rows = 1};
+    const int64_t new_values[1] = {81};
+    int64_t values[3] = {OLD, OLD, OLD};
+    uint8_t present[3] = {OLD, OLD, OLD}, out[7] = {OLD, OLD, OLD, OLD, OLD, OLD, OLD};
+    SPLICED(grundavok_splice_delta_to_end(DEPTHS, 0, 1, ALL(new_values), SLICE(1), ALL(values), ALL(present), ALL(out)), 0, 0, 7, &table);
+    LEFT(int64_t, values, 80, 81, 0);
+    LEFT(uint8_t, present, 1, 1, 0);
+    LEFT(uint8_t, out, 0x01, 0x13, 0x04, 0x7e, 0xd0, 0x00, 0x01);
+}
+
 /* Refused with 7 or 10, the slots hold the new list; the output is as it was. */
 static void delta_late(void) {
     const int64_t one[1] = {81}, wide[2] = {INT64_MAX, -2};
@@ -42,7 +54,10 @@ static void integer_refused(void) {
     SPLICED(grundavok_splice_integer(TWO, 0, 1, 0, ALL(new_values), SLICE(1), ALL(values), ALL(present), ALL(out)), 18, 0, 0, &none);
     SPLICED(grundavok_splice_integer(TWO, 0, 3, 4, ALL(new_values), SLICE(1, 2), ALL(values), ALL(present), ALL(out)), 8, 1, 0, &none);
     SPLICED(grundavok_splice_integer(TWO, 0, 3, 4, ALL(new_values), SLICE(1, 1), ALL(values), ALL(present), ALL(out)), 18, 0, 0, &none);
-    SPLICED(grundavok_splice_integer(TWO, 0, 2, 4, ALL(new_values), SLICE(1, 1), ALL(values), ALL(present), ALL(out)), 9, 0, 0, &none);
+    SPLICED(grundavok_splice_integer(TWO, 0, 2, 3, ALL(new_values), SLICE(1, 1), ALL(values), ALL(present), ALL(out)), 18, 0, 0, &none);
+    SPLICED(grundavok_splice_integer(TWO, 0, 2, 2, ALL(new_values), SLICE(1, 1), ALL(values), ALL(present), ALL(out)), 9, 0, 0, &none);
+    SPLICED(grundavok_splice_integer_to_end(TWO, 0, 3, ALL(new_values), SLICE(1, 1), ALL(values), ALL(present), ALL(out)), 18, 0, 0, &none);
+    SPLICED(grundavok_splice_integer_to_end(TWO, 1, 0, ALL(new_values), SLICE(1, 1), ALL(values), ALL(present), ALL(out)), 17, 0, 0, &none);
     LEFT(uint64_t, values, OLD, OLD);
     LEFT(uint8_t, present, OLD, OLD);
     LEFT(uint8_t, out, OLD, OLD, OLD);
@@ -58,7 +73,7 @@ static void integer_accepted(void) {
     LEFT(uint64_t, values, 0, 5, OLD);
     LEFT(uint8_t, present, 0, 1, OLD);
     LEFT(uint8_t, out, 0x02, 0x12, 0x04, 0x13, 0x02, 0x00, 0x01, 0x7f, 0x05, 0x7f, 0x05, OLD);
-    SPLICED(grundavok_splice_integer(TWO, 0, 0, 9, new_values, 0, (const uint8_t[]){0}, 0, ALL(values), ALL(present), ALL(out)), 0, 0, 7, &emptied);
+    SPLICED(grundavok_splice_integer_to_end(TWO, 0, 0, new_values, 0, (const uint8_t[]){0}, 0, ALL(values), ALL(present), ALL(out)), 0, 0, 7, &emptied);
     LEFT(uint64_t, values, 0, 0, OLD);
     LEFT(uint8_t, present, 0, 0, OLD);
     LEFT(uint8_t, out, 0x02, 0x12, 0x00, 0x13, 0x02, 0x7f, 0x05, 0x7f, 0x05, 0x7f, 0x05, OLD);
@@ -73,6 +88,12 @@ static void booleans(void) {
     SPLICED(grundavok_splice_boolean(FLAGS, 0, 0, 1, SLICE(0), ALL(values), ALL(out)), 0, 0, 4, &table);
     LEFT(uint8_t, values, 0, 0, 0, OLD);
     LEFT(uint8_t, out, 0x01, 0x14, 0x01, 0x03, OLD);
+    SPLICED(grundavok_splice_boolean(FLAGS, 0, 0, 4, SLICE(0), ALL(values), ALL(out)), 18, 0, 0, &none);
+    SPLICED(grundavok_splice_boolean_to_end(FLAGS, 0, 1, SLICE(0), ALL(values), ALL(out)), 10, 0, 0, &none);
+    LEFT(uint8_t, values, 1, 0, 0, OLD);
+    SPLICED(grundavok_splice_boolean_to_end(FLAGS, 0, 0, SLICE(0), ALL(values), ALL(out)), 0, 0, 4, &table);
+    LEFT(uint8_t, values, 0, 0, 0, OLD);
+    LEFT(uint8_t, out, 0x01, 0x14, 0x01, 0x01, OLD);
 }
 
 static void slots(void) {
@@ -99,6 +120,7 @@ static void slots(void) {
 
 void edits(void) {
     delta_accepted();
+    delta_to_end();
     delta_late();
     integer_refused();
     integer_accepted();

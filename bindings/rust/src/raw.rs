@@ -147,6 +147,22 @@ extern "C" {
         out: *mut u8,
         out_len: usize,
     ) -> Spliced;
+    pub fn grundavok_splice_integer_to_end(
+        block: *const u8,
+        block_len: usize,
+        position: usize,
+        start: usize,
+        new_values: *const u64,
+        new_values_len: usize,
+        new_present: *const u8,
+        new_present_len: usize,
+        values: *mut u64,
+        values_len: usize,
+        present: *mut u8,
+        present_len: usize,
+        out: *mut u8,
+        out_len: usize,
+    ) -> Spliced;
     pub fn grundavok_splice_delta(
         block: *const u8,
         block_len: usize,
@@ -164,12 +180,40 @@ extern "C" {
         out: *mut u8,
         out_len: usize,
     ) -> Spliced;
+    pub fn grundavok_splice_delta_to_end(
+        block: *const u8,
+        block_len: usize,
+        position: usize,
+        start: usize,
+        new_values: *const i64,
+        new_values_len: usize,
+        new_present: *const u8,
+        new_present_len: usize,
+        values: *mut i64,
+        values_len: usize,
+        present: *mut u8,
+        present_len: usize,
+        out: *mut u8,
+        out_len: usize,
+    ) -> Spliced;
     pub fn grundavok_splice_boolean(
         block: *const u8,
         block_len: usize,
         position: usize,
         start: usize,
         end: usize,
+        new_values: *const u8,
+        new_values_len: usize,
+        values: *mut u8,
+        values_len: usize,
+        out: *mut u8,
+        out_len: usize,
+    ) -> Spliced;
+    pub fn grundavok_splice_boolean_to_end(
+        block: *const u8,
+        block_len: usize,
+        position: usize,
+        start: usize,
         new_values: *const u8,
         new_values_len: usize,
         values: *mut u8,

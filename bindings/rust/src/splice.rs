@@ -1,7 +1,7 @@
-//! Edits: a range of one column's readings replaced, and the whole new block. An end past the list counts as its length.
+//! Edits: a range of one column's readings replaced, and the whole new block. The calls with `_to_end` take all readings from a start on.
 //!
-//! Refusals, in this order: those of `read_table`; 16; 17; 18 for an end below the start; the column's first fault; 18 for a start beyond
-//! the list; 5 for the result; 7 (delta alone).
+//! Refusals, in this order: those of `read_table`; 16; 17; 18 for an end below the start; the column's first fault; 18 for a start or an end
+//! beyond the list; 5 for the result; 7 (delta alone).
 
 use crate::raw_column::{column, rows, Row};
 use crate::{boolean, delta, judged, lists, raw, rle, Refusal};
@@ -39,16 +39,17 @@ fn ended<T>(r: raw::Spliced, mut out: Vec<u8>, list: Vec<T>) -> Result<Spliced<T
     judged(r.number, r.place, Spliced { block: out, rows, list })
 }
 
+/// The call has an `end`, whose place in the list is `$till`, or none.
 macro_rules! optional_splice {
-    ($name:ident, $element:ty, $column:ident, $call:ident) => {
+    ($name:ident, $element:ty, $column:ident, $call:ident, ($($end:ident)?), $till:expr) => {
         pub fn $name(
             block: &[u8],
             position: usize,
             start: usize,
-            end: usize,
+            $($end: usize,)?
             new: &[Option<$element>],
         ) -> Result<Spliced<Option<$element>>, Refusal> {
-            let (old, len) = lengths(column(block, position).and_then($column::count), start, end, new.len());
+            let (old, len) = lengths(column(block, position).and_then($column::count), start, $till, new.len());
             let (new_values, new_present) = lists::apart(new);
             let (mut values, mut present) = (vec![0; old.max(len)], vec![0; old.max(len)]);
             let edit = |out: &mut [u8], values: &mut [$element], present: &mut [u8]| unsafe {
@@ -57,7 +58,7 @@ macro_rules! optional_splice {
                     block.len(),
                     position,
                     start,
-                    end,
+                    $($end,)?
                     new_values.as_ptr(),
                     new_values.len(),
                     new_present.as_ptr(),
@@ -79,31 +80,40 @@ macro_rules! optional_splice {
     };
 }
 
-optional_splice!(splice_integer, u64, rle, grundavok_splice_integer);
-optional_splice!(splice_delta, i64, delta, grundavok_splice_delta);
+optional_splice!(splice_integer, u64, rle, grundavok_splice_integer, (end), end);
+optional_splice!(splice_integer_to_end, u64, rle, grundavok_splice_integer_to_end, (), usize::MAX);
+optional_splice!(splice_delta, i64, delta, grundavok_splice_delta, (end), end);
+optional_splice!(splice_delta_to_end, i64, delta, grundavok_splice_delta_to_end, (), usize::MAX);
 
-pub fn splice_boolean(block: &[u8], position: usize, start: usize, end: usize, new: &[bool]) -> Result<Spliced<bool>, Refusal> {
-    let (old, len) = lengths(column(block, position).and_then(boolean::count), start, end, new.len());
-    let new = lists::bytes(new);
-    let mut values = vec![0; old.max(len)];
-    let edit = |out: &mut [u8], values: &mut [u8]| unsafe {
-        raw::grundavok_splice_boolean(
-            block.as_ptr(),
-            block.len(),
-            position,
-            start,
-            end,
-            new.as_ptr(),
-            new.len(),
-            values.as_mut_ptr(),
-            values.len(),
-            out.as_mut_ptr(),
-            out.len(),
-        )
+macro_rules! boolean_splice {
+    ($name:ident, $call:ident, ($($end:ident)?), $till:expr) => {
+        pub fn $name(block: &[u8], position: usize, start: usize, $($end: usize,)? new: &[bool]) -> Result<Spliced<bool>, Refusal> {
+            let (old, len) = lengths(column(block, position).and_then(boolean::count), start, $till, new.len());
+            let new = lists::bytes(new);
+            let mut values = vec![0; old.max(len)];
+            let edit = |out: &mut [u8], values: &mut [u8]| unsafe {
+                raw::$call(
+                    block.as_ptr(),
+                    block.len(),
+                    position,
+                    start,
+                    $($end,)?
+                    new.as_ptr(),
+                    new.len(),
+                    values.as_mut_ptr(),
+                    values.len(),
+                    out.as_mut_ptr(),
+                    out.len(),
+                )
+            };
+            until_10(edit(&mut [], &mut values))?;
+            let size = boolean::size(&values[..len])?;
+            let mut out = vec![0; block.len() + size + TABLE_GROWTH];
+            let r = edit(&mut out, &mut values);
+            ended(r, out, lists::booleans(&values[..len]))
+        }
     };
-    until_10(edit(&mut [], &mut values))?;
-    let size = boolean::size(&values[..len])?;
-    let mut out = vec![0; block.len() + size + TABLE_GROWTH];
-    let r = edit(&mut out, &mut values);
-    ended(r, out, lists::booleans(&values[..len]))
 }
+
+boolean_splice!(splice_boolean, grundavok_splice_boolean, (end), end);
+boolean_splice!(splice_boolean_to_end, grundavok_splice_boolean_to_end, (), usize::MAX);

@@ -97,7 +97,8 @@ mod calls {
         assert_eq!(splice::splice_delta(&DEPTHS, 0, 1, 2, &[Some(i64::MAX), Some(-2)]), refused(7, 2));
         assert_eq!(splice::splice_integer(&DEPTHS, 0, 0, 1, &[]), refused(17, 0));
         assert_eq!(splice::splice_integer(&TWO, 0, 3, 4, &[]), refused(18, 0));
-        let emptied = splice::splice_integer(&TWO, 0, 0, usize::MAX, &[]).unwrap();
+        assert_eq!(splice::splice_integer(&TWO, 0, 0, usize::MAX, &[]), refused(18, 0));
+        let emptied = splice::splice_integer_to_end(&TWO, 0, 0, &[]).unwrap();
         assert_eq!(
             (emptied.block.as_slice(), emptied.list.len()),
             (&[0x02, 0x12, 0x00, 0x13, 0x02, 0x7f, 0x05][..], 0)
@@ -107,5 +108,7 @@ mod calls {
             (flags.block.as_slice(), flags.list.as_slice()),
             (&[0x01, 0x14, 0x01, 0x03][..], &[false; 3][..])
         );
+        assert_eq!(splice::splice_delta_to_end(&DEPTHS, 0, 1, &[Some(81)]).unwrap().list, [Some(80), Some(81)]);
+        assert_eq!(splice::splice_boolean_to_end(&[0x01, 0x14, 0x03, 0x00, 0x01, 0x02], 0, 4, &[]), refused(18, 0));
     }
 }

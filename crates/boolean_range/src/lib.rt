@@ -13,6 +13,7 @@ ghost use Rattle.splice.specs.Kinds.{boolean};
 ghost use Rattle.splice.specs.Ready.{HasRow, Ready, Good, Writable, putBehind, Finished};
 use block_frame::put_frame;
 use encoding::Answer;
+use splice::End;
 use splice::Planned;
 use splice::Spliced;
 
@@ -79,7 +80,7 @@ fn edit_u8(
     old: usize,
     len: usize,
     start: usize,
-    end: usize,
+    end: End,
     new: &[u8],
     values: &mut [u8],
     out: &mut [u8],
@@ -90,16 +91,16 @@ fn edit_u8(
         (now (values .entry)) (now (values .exit)) (now (out .entry)) (now (out .exit)) r ⌝ }
 {
     load_u8(block, at, till, values);
-    slots_u8::splice_u8(values, old, start, splice::least(end, old), new);
+    slots_u8::splice_u8(values, old, start, splice::end_in(end, old), new);
     finish_u8(block, position, len, values, out)
 }
 
-// The values from start up to end of the column at a position replaced by the new ones.
-pub fn splice_boolean(
+// Refused by its plan, or edited.
+fn splice_u8(
     block: &[u8],
     position: usize,
     start: usize,
-    end: usize,
+    end: End,
     new: &[u8],
     values: &mut [u8],
     out: &mut [u8],
@@ -134,4 +135,35 @@ pub fn splice_boolean(
         ),
         Planned::Refused(n, place) => splice::refused(n, place),
     }
+}
+
+// The values from start up to end of the column at a position replaced by the new ones.
+pub fn splice_boolean(
+    block: &[u8],
+    position: usize,
+    start: usize,
+    end: usize,
+    new: &[u8],
+    values: &mut [u8],
+    out: &mut [u8],
+) -> Spliced
+    ensures { λ r. ⌜ BooleanSpliced boolean (now (block .entry)) position start (End.At end) (now (new .entry))
+        (now (values .entry)) (now (values .exit)) (now (out .entry)) (now (out .exit)) r ⌝ }
+{
+    splice_u8(block, position, start, End::At(end), new, values, out)
+}
+
+// The values from start to the end of the list replaced by the new ones.
+pub fn splice_boolean_to_end(
+    block: &[u8],
+    position: usize,
+    start: usize,
+    new: &[u8],
+    values: &mut [u8],
+    out: &mut [u8],
+) -> Spliced
+    ensures { λ r. ⌜ BooleanSpliced boolean (now (block .entry)) position start End.OfList (now (new .entry))
+        (now (values .entry)) (now (values .exit)) (now (out .entry)) (now (out .exit)) r ⌝ }
+{
+    splice_u8(block, position, start, End::OfList, new, values, out)
 }

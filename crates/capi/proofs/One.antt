@@ -13,6 +13,7 @@ use Rattle.boolean_decoder.specs.Decoded.{Decoded as DecodedFlags}
 use Rattle.splice.specs.Contract.{optionalEdit, OptionalSpliced, booleanEdit, BooleanSpliced}
 use Rattle.splice.specs.Edit.{answered}
 use Rattle.splice.specs.Kind.{Kind}
+use Rattle.splice.specs.declared.End.{End}
 use Rattle.splice.specs.declared.Spliced.{Spliced as Edit}
 use Rattle.capi.specs.Answers.{counted, splicedAs}
 use Rattle.capi.specs.Told.{Told, ToldEdit}
@@ -54,14 +55,14 @@ module _ {bytes : List ℕ} {judged : Answer} {out out′ : List ℕ} {r : Count
   encoded-output e = e .holds .output ∙ ap (λ (o : Answer). left o bytes out) (e .holds .answer)
 
 -- an edit: its slices are fixed by the edit alone (`OptionalSpliced`, `BooleanSpliced`), and its answer is
-pub optional-answer : {A : Type 0} {K : Kind (Option A)} {nought : A} {s : List ℕ} {position start end : ℕ} {new : List A} {flags : List ℕ}
+pub optional-answer : {A : Type 0} {K : Kind (Option A)} {nought : A} {s : List ℕ} {position start : ℕ} {end : End} {new : List A} {flags : List ℕ}
     {v v′ : List A} {p p′ out out′ : List ℕ} {r : Spliced}
     → ToldEdit (OptionalSpliced K nought s position start end new flags v v′ p p′ out out′) r
     → r ≡ splicedAs (answered (optionalEdit K s position start end new flags (length v) (length p) (length out)))
 optional-answer {A} {K} {nought} {s} {position} {start} {end} {new} {flags} {v} {v′} {p} {p′} {out} =
     edit-one (answered (optionalEdit K s position start end new flags (length v) (length p) (length out))) (λ o e. e .answer)
 
-pub boolean-answer : {K : Kind ℕ} {s : List ℕ} {position start end : ℕ} {new v v′ out out′ : List ℕ} {r : Spliced}
+pub boolean-answer : {K : Kind ℕ} {s : List ℕ} {position start : ℕ} {end : End} {new v v′ out out′ : List ℕ} {r : Spliced}
     → ToldEdit (BooleanSpliced K s position start end new v v′ out out′) r
     → r ≡ splicedAs (answered (booleanEdit K s position start end new (length v) (length out)))
 boolean-answer {K} {s} {position} {start} {end} {new} {v} {v′} {out} =

@@ -10,6 +10,7 @@ ghost use Rattle.capi.specs.Told.{ToldEdit};
 use crate::Counted;
 use crate::Spliced;
 use crate::answers;
+use splice::End;
 
 #[no_mangle]
 pub extern "C" fn grundavok_splice_integer(
@@ -23,7 +24,7 @@ pub extern "C" fn grundavok_splice_integer(
     present: &mut [u8],
     out: &mut [u8],
 ) -> Spliced
-    ensures { λ r. ⌜ ToldEdit (OptionalSpliced integer 0 (now (block .entry)) position start end (now («new_values» .entry)) (now («new_present» .entry))
+    ensures { λ r. ⌜ ToldEdit (OptionalSpliced integer 0 (now (block .entry)) position start (End.At end) (now («new_values» .entry)) (now («new_present» .entry))
         (now (values .entry)) (now (values .exit)) (now (present .entry)) (now (present .exit)) (now (out .entry)) (now (out .exit))) r ⌝ }
 {
     answers::spliced(rle_range::splice_integer(
@@ -31,6 +32,32 @@ pub extern "C" fn grundavok_splice_integer(
         position,
         start,
         end,
+        new_values,
+        new_present,
+        values,
+        present,
+        out,
+    ))
+}
+
+#[no_mangle]
+pub extern "C" fn grundavok_splice_integer_to_end(
+    block: &[u8],
+    position: usize,
+    start: usize,
+    new_values: &[u64],
+    new_present: &[u8],
+    values: &mut [u64],
+    present: &mut [u8],
+    out: &mut [u8],
+) -> Spliced
+    ensures { λ r. ⌜ ToldEdit (OptionalSpliced integer 0 (now (block .entry)) position start End.OfList (now («new_values» .entry)) (now («new_present» .entry))
+        (now (values .entry)) (now (values .exit)) (now (present .entry)) (now (present .exit)) (now (out .entry)) (now (out .exit))) r ⌝ }
+{
+    answers::spliced(rle_range::splice_integer_to_end(
+        block,
+        position,
+        start,
         new_values,
         new_present,
         values,
@@ -51,7 +78,7 @@ pub extern "C" fn grundavok_splice_delta(
     present: &mut [u8],
     out: &mut [u8],
 ) -> Spliced
-    ensures { λ r. ⌜ ToldEdit (OptionalSpliced delta (pos 0) (now (block .entry)) position start end (now («new_values» .entry)) (now («new_present» .entry))
+    ensures { λ r. ⌜ ToldEdit (OptionalSpliced delta (pos 0) (now (block .entry)) position start (End.At end) (now («new_values» .entry)) (now («new_present» .entry))
         (now (values .entry)) (now (values .exit)) (now (present .entry)) (now (present .exit)) (now (out .entry)) (now (out .exit))) r ⌝ }
 {
     answers::spliced(delta_range::splice_delta(
@@ -59,6 +86,32 @@ pub extern "C" fn grundavok_splice_delta(
         position,
         start,
         end,
+        new_values,
+        new_present,
+        values,
+        present,
+        out,
+    ))
+}
+
+#[no_mangle]
+pub extern "C" fn grundavok_splice_delta_to_end(
+    block: &[u8],
+    position: usize,
+    start: usize,
+    new_values: &[i64],
+    new_present: &[u8],
+    values: &mut [i64],
+    present: &mut [u8],
+    out: &mut [u8],
+) -> Spliced
+    ensures { λ r. ⌜ ToldEdit (OptionalSpliced delta (pos 0) (now (block .entry)) position start End.OfList (now («new_values» .entry)) (now («new_present» .entry))
+        (now (values .entry)) (now (values .exit)) (now (present .entry)) (now (present .exit)) (now (out .entry)) (now (out .exit))) r ⌝ }
+{
+    answers::spliced(delta_range::splice_delta_to_end(
+        block,
+        position,
+        start,
         new_values,
         new_present,
         values,
@@ -77,7 +130,7 @@ pub extern "C" fn grundavok_splice_boolean(
     values: &mut [u8],
     out: &mut [u8],
 ) -> Spliced
-    ensures { λ r. ⌜ ToldEdit (BooleanSpliced boolean (now (block .entry)) position start end (now («new_values» .entry))
+    ensures { λ r. ⌜ ToldEdit (BooleanSpliced boolean (now (block .entry)) position start (End.At end) (now («new_values» .entry))
         (now (values .entry)) (now (values .exit)) (now (out .entry)) (now (out .exit))) r ⌝ }
 {
     answers::spliced(boolean_range::splice_boolean(
@@ -85,6 +138,28 @@ pub extern "C" fn grundavok_splice_boolean(
         position,
         start,
         end,
+        new_values,
+        values,
+        out,
+    ))
+}
+
+#[no_mangle]
+pub extern "C" fn grundavok_splice_boolean_to_end(
+    block: &[u8],
+    position: usize,
+    start: usize,
+    new_values: &[u8],
+    values: &mut [u8],
+    out: &mut [u8],
+) -> Spliced
+    ensures { λ r. ⌜ ToldEdit (BooleanSpliced boolean (now (block .entry)) position start End.OfList (now («new_values» .entry))
+        (now (values .entry)) (now (values .exit)) (now (out .entry)) (now (out .exit))) r ⌝ }
+{
+    answers::spliced(boolean_range::splice_boolean_to_end(
+        block,
+        position,
+        start,
         new_values,
         values,
         out,

@@ -3,6 +3,7 @@ use crate::boolean_edits;
 use crate::delta_edits;
 use crate::fields;
 use crate::fields::Cursor;
+use crate::fields::Taken;
 use crate::fields::Verdict;
 use crate::integer_edits;
 use crate::rooms;
@@ -23,24 +24,33 @@ pub fn run(name: &[u8], line: &[u8], c: Cursor) -> Verdict {
     Verdict::Unknown
 }
 
-// The column and the range of an edit, and the cursor behind them.
+// The column and the range of an edit, and the cursor behind them. A range to the end of the list has the call that takes only a start.
 pub struct Aim {
     pub position: usize,
     pub start: usize,
     pub end: usize,
+    pub to_end: bool,
     pub rest: Cursor,
 }
 
-// POSITION START END
+// POSITION START END, where END may be `end`
 pub fn take_aim(line: &[u8], c: Cursor) -> Aim {
     let p = fields::take_number(line, c, u64::MAX);
     let s = fields::take_number(line, p.rest, u64::MAX);
-    let e = fields::take_number(line, s.rest, u64::MAX);
-    let rest = e.rest;
+    let at_end = s.rest;
+    if check::same(fields::field(line, at_end), b"end") {
+        return aimed(p, s, 0, true, fields::next(line, at_end));
+    }
+    let e = fields::take_number(line, at_end, u64::MAX);
+    aimed(p, s, e.value as usize, false, e.rest)
+}
+
+fn aimed(p: Taken, s: Taken, end: usize, to_end: bool, rest: Cursor) -> Aim {
     Aim {
         position: p.value as usize,
         start: s.value as usize,
-        end: e.value as usize,
+        end,
+        to_end,
         rest,
     }
 }

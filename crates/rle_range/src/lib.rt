@@ -18,6 +18,7 @@ ghost use Rattle.splice.specs.Kinds.{integer};
 ghost use Rattle.splice.specs.Ready.{HasRow, Ready, Fits, Replaced, Good, Writable, putBehind, Finished};
 use block_frame::put_frame;
 use encoding::Answer;
+use splice::End;
 use splice::Planned;
 use splice::Spliced;
 
@@ -145,7 +146,7 @@ fn edit_u64(
     old: usize,
     len: usize,
     start: usize,
-    end: usize,
+    end: End,
     new: &[u64],
     flags: &[u8],
     values: &mut [u64],
@@ -163,19 +164,19 @@ fn edit_u64(
         present,
         old,
         start,
-        splice::least(end, old),
+        splice::end_in(end, old),
         new,
         flags,
     );
     finish_u64(block, position, len, values, present, out)
 }
 
-// The readings from start up to end of the column at a position replaced by the new ones.
-pub fn splice_integer(
+// Refused by its plan, or edited.
+fn splice_u64(
     block: &[u8],
     position: usize,
     start: usize,
-    end: usize,
+    end: End,
     new: &[u64],
     flags: &[u8],
     values: &mut [u64],
@@ -214,4 +215,59 @@ pub fn splice_integer(
         ),
         Planned::Refused(n, place) => splice::refused(n, place),
     }
+}
+
+// The readings from start up to end of the column at a position replaced by the new ones.
+pub fn splice_integer(
+    block: &[u8],
+    position: usize,
+    start: usize,
+    end: usize,
+    new: &[u64],
+    flags: &[u8],
+    values: &mut [u64],
+    present: &mut [u8],
+    out: &mut [u8],
+) -> Spliced
+    ensures { λ r. ⌜ OptionalSpliced integer 0 (now (block .entry)) position start (End.At end) (now (new .entry)) (now (flags .entry))
+        (now (values .entry)) (now (values .exit)) (now (present .entry)) (now (present .exit)) (now (out .entry)) (now (out .exit)) r ⌝ }
+{
+    splice_u64(
+        block,
+        position,
+        start,
+        End::At(end),
+        new,
+        flags,
+        values,
+        present,
+        out,
+    )
+}
+
+// The readings from start to the end of the list replaced by the new ones.
+pub fn splice_integer_to_end(
+    block: &[u8],
+    position: usize,
+    start: usize,
+    new: &[u64],
+    flags: &[u8],
+    values: &mut [u64],
+    present: &mut [u8],
+    out: &mut [u8],
+) -> Spliced
+    ensures { λ r. ⌜ OptionalSpliced integer 0 (now (block .entry)) position start End.OfList (now (new .entry)) (now (flags .entry))
+        (now (values .entry)) (now (values .exit)) (now (present .entry)) (now (present .exit)) (now (out .entry)) (now (out .exit)) r ⌝ }
+{
+    splice_u64(
+        block,
+        position,
+        start,
+        End::OfList,
+        new,
+        flags,
+        values,
+        present,
+        out,
+    )
 }

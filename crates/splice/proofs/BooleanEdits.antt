@@ -16,6 +16,7 @@ use Rattle.boolean_decoder.specs.Turns.{boolTrace}
 use Rattle.boolean_decoder.proofs.Clean.{Clean, clean-from, clean-append, clean-take, clean-drop, read-clean}
 use Rattle.slots.specs.Splice.{spliced, inSlots, splicedSlots, spliceAnswer}
 use Rattle.splice.specs.Edit.{Edited, endIn, flagsIn, givenOptional, givenBoolean, refusal, answered, slotsLeft, outLeft}
+use Rattle.splice.specs.declared.End.{End}
 use Rattle.splice.specs.Kinds.{boolean}
 use Rattle.splice.specs.Contract.{itself, BooleanSpliced}
 use Rattle.splice.specs.Ready.{Ready, Good, Finished}
@@ -23,7 +24,7 @@ use Rattle.splice.specs.Steps.{planned}
 use Rattle.splice.specs.declared.Spliced.{Spliced}
 use Rattle.splice.specs.declared.Planned.{Planned}
 use Rattle.splice.specs.declared.Planned.the-variants as plan
-use Rattle.splice.proofs.Planning.{sound-is, plan-stops, plan-ready}
+use Rattle.splice.proofs.Planning.{sound-is, plan-stops, plan-ready, in-order}
 use Rattle.splice.proofs.Replacing.{splice-fits, in-loaded}
 use Rattle.splice.proofs.Editing.{newList, new-length, edit-answer, edit-output, edit-slots}
 use Rattle.splice.proofs.Counting.{boolean-counts}
@@ -40,7 +41,7 @@ given-clean new {g} e = clean-from 0 new (go (badFlag 0 new) refl e)
     go none h q = h
     go (some i) h q = let z : _≡_ {A = ℕ} 0 1 = cc in absurd (omega arith)
 
-module _ {s : List ℕ} {position start end at till old len : ℕ} (new v : List ℕ)
+module _ {s : List ℕ} {position start : ℕ} {end : End} {at till old len : ℕ} (new v : List ℕ)
     (R : Ready boolean s position start end (length new) (length v) at till old len) {g : ℕ} (given : givenBoolean new ≡ done g) where
   abbrev rs : List ℕ
   rs = boolTrace (take (till - at) (drop at s)) .readings
@@ -64,7 +65,7 @@ module _ {s : List ℕ} {position start end at till old len : ℕ} (new v : List
       holds : v₂ ≡ inSlots 0 v old xs
       holds =
           in-loaded 0 v old start e rs new many-read loaded
-          (splice-fits 0 v₁ old start e new (omega (arith, least, R .located .ordered, R .starts)) (omega (arith, least)) (omega (arith, kept, R .old-fits))
+          (splice-fits 0 v₁ old start e new (omega (arith, least, in-order old start end (R .not-below) (R .starts))) (omega (arith, least, R .within)) (omega (arith, kept, R .old-fits))
           (omega (arith, kept, least, R .new-fits, R .long)) P)
           ∙ ap (λ (n : ℕ). inSlots 0 v old (spliced rs start n new)) least
 
@@ -96,7 +97,7 @@ module _ {s : List ℕ} {position start end at till old len : ℕ} (new v : List
           }
 
 -- ---- as it begins: by its plan, for which new values are readings that are all present
-module _ (s : List ℕ) (position start end : ℕ) (new v out : List ℕ) where
+module _ (s : List ℕ) (position start : ℕ) (end : End) (new v out : List ℕ) where
   abbrev G : Answer
   G = givenOptional (length v) (length v) (length new) new
 

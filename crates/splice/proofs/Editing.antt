@@ -16,9 +16,10 @@ use Rattle.slots.specs.Splice.{spliced, inSlots}
 use Rattle.slots.proofs.Splicing.{length-spliced}
 use Rattle.splice.specs.Kind.{Kind}
 use Rattle.splice.specs.Edit.{Edited, late, accepted, endIn, finished, edited, answered, slotsLeft, outLeft}
+use Rattle.splice.specs.declared.End.{End}
 use Rattle.splice.specs.Ready.{Ready, finishedAt, Finished}
 use Rattle.splice.specs.declared.Spliced.{Spliced}
-use Rattle.splice.proofs.Planning.{sound-is}
+use Rattle.splice.proofs.Planning.{sound-is, in-order}
 
 -- ---- the end of an edit does not depend on the old list's length, but for the slots
 module _ {A : Type 0} (K : Kind A) (xs : List A) (room : ℕ) (block : List ℕ → List ℕ) where
@@ -47,7 +48,7 @@ module _ {A : Type 0} (K : Kind A) (xs : List A) (room : ℕ) (block : List ℕ 
       go false = refl
 
 -- ---- its meaning
-module _ {A : Type 0} (K : Kind A) {s : List ℕ} {position start end n slots at till old len : ℕ} (new : List A) (many : n ≡ length new)
+module _ {A : Type 0} (K : Kind A) {s : List ℕ} {position start : ℕ} {end : End} {n slots at till old len : ℕ} (new : List A) (many : n ≡ length new)
     (R : Ready K s position start end n slots at till old len) where
   -- the column, its old list and the new one
   abbrev pub columnIn : List ℕ
@@ -67,7 +68,7 @@ module _ {A : Type 0} (K : Kind A) {s : List ℕ} {position start end n slots at
 
   pub new-length : length newList ≡ len
   new-length =
-      length-spliced (K .reads columnIn .readings) start (endIn end old) new (omega (arith, R .located .ordered, R .starts)) (omega (arith, old-is))
+      length-spliced (K .reads columnIn .readings) start (endIn end old) new (in-order old start end (R .not-below) (R .starts)) (omega (arith, R .within, old-is))
       ∙ ap (λ (k : ℕ). start + length new + (k - endIn end old)) old-is ∙ ap (λ (k : ℕ). start + k + (old - endIn end old)) (sym many) ∙ sym (R .long)
 
   pub ready-edit : {given : Answer} {g : ℕ} (room : ℕ) → given ≡ done g
@@ -80,12 +81,13 @@ module _ {A : Type 0} (K : Kind A) {s : List ℕ} {position start end n slots at
         R .located .row .is,
         lt-ltb position (length (R .located .row .specs)) (R .located .row .there),
         R .located .served,
-        le-ltb end start (R .located .ordered),
+        R .not-below,
         q,
         column-is,
         R .reads,
         old-is,
         le-ltb old start (R .starts),
+        le-ltb old (endIn end old) (R .within),
         new-length,
         le-ltb limit len (R .few),
         le-ltb slots (max old len) m,

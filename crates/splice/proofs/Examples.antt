@@ -20,6 +20,7 @@ use Rattle.boolean_decoder.specs.Turns.{counted, turnAt, boolTrace}
 use Rattle.raw_column.specs.Table.{rowsAt, inOrder, plain, sum, parse}
 use Rattle.block_frame.specs.Columns.{cut, joined, rowsBytes, tableBytes, blockBytes, newBlock}
 use Rattle.splice.specs.Edit.{accepted, edited}
+use Rattle.splice.specs.declared.End.the-variants as ending
 use Rattle.splice.specs.Kinds.{integer, delta, boolean}
 
 pub record Examples : Type 0 where
@@ -41,7 +42,7 @@ pub record Examples : Type 0 where
   pub e12 : integer .reads (0x02 ∷ []) ≡ record { readings = []; ending = fault 1 1 }
   -- column 0, range 1 to 2, new reading 81
   pub edit :
-      edited delta (0x01 ∷ 0x13 ∷ 0x05 ∷ 0x7f ∷ 0xd0 ∷ 0x00 ∷ 0x02 ∷ 0x00 ∷ []) 0 1 2 (done 0) (some (pos 81) ∷ []) 3 8
+      edited delta (0x01 ∷ 0x13 ∷ 0x05 ∷ 0x7f ∷ 0xd0 ∷ 0x00 ∷ 0x02 ∷ 0x00 ∷ []) 0 1 (ending.At 2) (done 0) (some (pos 81) ∷ []) 3 8
       ≡ accepted 3 (some (pos 80) ∷ some (pos 81) ∷ some (pos 80) ∷ []) (0x01 ∷ 0x13 ∷ 0x05 ∷ 0x7d ∷ 0xd0 ∷ 0x00 ∷ 0x01 ∷ 0x7f ∷ [])
 
 pub examples : Examples

@@ -9,7 +9,7 @@ use native.Mathlib.Omega.{arith}
 use lib.Seq.{drop-drop, length-take-le}
 use lib.ListN.{length, getD, set, take, drop, length-append, length-take, length-drop, take-append-drop}
 use lib.Dec.{ltb, leb}
-use borrow.Author.Tests.{ltb-true, leb-true}
+use borrow.Author.Tests.{ltb-true, leb-true, ltb-false}
 use Rattle.leb128.specs.Answer.{Answer, done, refused}
 use Rattle.encoding.specs.Limit.{limit}
 use Rattle.encoding.specs.Walk.{Ending, fault, outcomeOf, outcome}
@@ -24,7 +24,8 @@ use Rattle.block_frame.proofs.Cutting.{cut-at}
 use Rattle.block_frame.proofs.Tables.{Below, table-fills, table-back}
 use Rattle.slots.specs.Splice.{spliced}
 use Rattle.splice.specs.Kind.{Kind}
-use Rattle.splice.specs.Edit.{Edited, stop, late, accepted, endIn, serves, finished, editList, readBy, editColumn, editIn, edited, answered, slotsLeft}
+use Rattle.splice.specs.Edit.{Edited, stop, late, accepted, endIn, below, serves, finished, editList, readBy, editColumn, editIn, edited, answered, slotsLeft}
+use Rattle.splice.specs.declared.End.{End}
 
 -- the column at a position, as an edit takes it
 abbrev columnAt : List ℕ → List ℕ → ℕ → ℕ → List ℕ
@@ -98,7 +99,7 @@ module _ {A : Type 0} (K : Kind A) (s s′ specs lens : List ℕ) (next position
         (omega (arith, leb-true (length (newBlock s specs lens next position c)) room e, column-within c))))
         (λ e. both-late 10 0 old xs))
 
-    read-alike : (o : Answer) (old : List A) (start end : ℕ) (new : List A) (slots : ℕ)
+    read-alike : (o : Answer) (old : List A) (start : ℕ) (end : End) (new : List A) (slots : ℕ)
         → Alike K s s′ specs lens position
         (readBy K o old (λ old. editList K old start end new slots room (newBlock s specs lens next position)))
         (readBy K o old (λ old. editList K old start end new slots room (newBlock s′ specs lens next position)))
@@ -106,11 +107,12 @@ module _ {A : Type 0} (K : Kind A) (s s′ specs lens : List ℕ) (next position
     read-alike (done n) old start end new slots =
         let xs = spliced old start (endIn end (length old)) new in
         alike-if (ltb (length old) start) (λ e. both-stop 18 0)
+        (λ e. alike-if (ltb (length old) (endIn end (length old))) (λ e. both-stop 18 0)
         (λ e. alike-if (ltb limit (length xs)) (λ e. both-stop 5 0)
         (λ e. alike-if (ltb slots (max (length old) (length xs))) (λ e. both-stop 9 0)
-        (λ e. finished-alike (length old) xs (K .wide xs))))
+        (λ e. finished-alike (length old) xs (K .wide xs)))))
 
-    column-alike : (column : List ℕ) (start end : ℕ) (given : Answer) (new : List A) (slots : ℕ)
+    column-alike : (column : List ℕ) (start : ℕ) (end : End) (given : Answer) (new : List A) (slots : ℕ)
         → Alike K s s′ specs lens position
         (editColumn K column start end given new slots room (newBlock s specs lens next position))
         (editColumn K column start end given new slots room (newBlock s′ specs lens next position))
@@ -118,7 +120,7 @@ module _ {A : Type 0} (K : Kind A) (s s′ specs lens : List ℕ) (next position
     column-alike column start end (done g) new slots = read-alike (outcome (K .reads column)) (K .reads column .readings) start end new slots
 
     -- THE SAME EDIT OF BOTH comes to the same
-    pub isolated : (start end : ℕ) (given : Answer) (new : List A) (slots : ℕ)
+    pub isolated : (start : ℕ) (end : End) (given : Answer) (new : List A) (slots : ℕ)
         → Alike K s s′ specs lens position (edited K s position start end given new slots room) (edited K s′ position start end given new slots room)
     unfolding edited
     isolated start end given new slots =
@@ -126,7 +128,7 @@ module _ {A : Type 0} (K : Kind A) (s s′ specs lens : List ℕ) (next position
         (alike-if (ltb position (length specs))
         (λ e. rw same
         (alike-if (serves (K .low) (K .high) (getD specs position 0))
-        (λ e. alike-if (ltb end start) (λ e. both-stop 18 0) (λ e. column-alike (columnAt s′ lens next position) start end given new slots))
+        (λ e. alike-if (below start end) (λ e. both-stop 18 0) (λ e. column-alike (columnAt s′ lens next position) start end given new slots))
         (λ e. both-stop 17 0)))
         (λ e. both-stop 16 0))
 
@@ -145,11 +147,12 @@ one-table s s′ specs lens next bytes e l t =
 
 -- ---- what an accepted edit writes
 
-module _ {A : Type 0} (K : Kind A) (s specs lens : List ℕ) (next position start end : ℕ) (new : List A) (room : ℕ) where
+module _ {A : Type 0} (K : Kind A) (s specs lens : List ℕ) (next position start : ℕ) (end : End) (new : List A) (room : ℕ) where
   -- the old list, by the definition of reading, with the range replaced; and the column of the new block, by that of writing
   pub record Right (old : ℕ) (xs : List A) (block : List ℕ) : Type 0 where
     pub sound : K .reads (columnAt s lens next position) .ending ≡ Ending.sound
     pub size : old ≡ length (K .reads (columnAt s lens next position) .readings)
+    pub within : endIn end old ≤ old
     pub list : xs ≡ spliced (K .reads (columnAt s lens next position) .readings) start (endIn end old) new
     pub block-is : block ≡ newBlock s specs lens next position (K .writes xs)
     pub served : position < length specs
@@ -166,18 +169,20 @@ module _ {A : Type 0} (K : Kind A) (s specs lens : List ℕ) (next position star
       let old = K .reads (columnAt s lens next position) .readings in
       let xs = spliced old start (endIn end (length old)) new in
       cond-by RightIn (ltb (length old) start) (λ h. tt)
-      (λ h. cond-by RightIn (ltb limit (length xs)) (λ h. tt)
+      (λ h. cond-by RightIn (ltb (length old) (endIn end (length old))) (λ b. tt)
+      (λ b. cond-by RightIn (ltb limit (length xs)) (λ h. tt)
       (λ h. cond-by RightIn (ltb slots (max (length old) (length xs))) (λ h. tt)
-      (λ h. go (K .wide xs))))
+      (λ h. go (ltb-false (length old) (endIn end (length old)) b) (K .wide xs)))))
     where
-      go : (w : Option ℕ) → let old = K .reads (columnAt s lens next position) .readings in let xs = spliced old start (endIn end (length old)) new in
+      go : let n = length (K .reads (columnAt s lens next position) .readings) in endIn end n ≤ n → (w : Option ℕ)
+          → let old = K .reads (columnAt s lens next position) .readings in let xs = spliced old start (endIn end (length old)) new in
           RightIn (finished K (length old) xs room (newBlock s specs lens next position) w)
-      go (some i) = tt
-      go none =
+      go b (some i) = tt
+      go b none =
           let old = K .reads (columnAt s lens next position) .readings in
           let xs = spliced old start (endIn end (length old)) new in
           cond-by RightIn (leb (length (newBlock s specs lens next position (K .writes xs))) room)
-          (λ h. record { sound = e; size = refl; list = refl; block-is = refl; served = row; fits = leb-true (length (newBlock s specs lens next position (K .writes xs))) room h })
+          (λ h. record { sound = e; size = refl; within = b; list = refl; block-is = refl; served = row; fits = leb-true (length (newBlock s specs lens next position (K .writes xs))) room h })
           (λ h. tt)
 
   right-column : (slots : ℕ) (given : Answer) → position < length specs
@@ -196,7 +201,7 @@ module _ {A : Type 0} (K : Kind A) (s specs lens : List ℕ) (next position star
   right-in slots given =
       cond-by RightIn (ltb position (length specs))
       (λ h. cond-by RightIn (serves (K .low) (K .high) (getD specs position 0))
-      (λ h′. cond-by RightIn (ltb end start) (λ h″. tt) (λ h″. right-column slots given (ltb-true position (length specs) h)))
+      (λ h′. cond-by RightIn (below start end) (λ h″. tt) (λ h″. right-column slots given (ltb-true position (length specs) h)))
       (λ h′. tt)) (λ h. tt)
 
   pub accepted-right : (slots : ℕ) (given : Answer) (old : ℕ) (xs : List A) (block : List ℕ) → parse s ≡ tab specs lens next
@@ -252,13 +257,13 @@ alike-slots z f v (both-stop number place) = refl
 alike-slots z f v (both-late number place old xs) = refl
 alike-slots z f v (both-accepted old xs block block′ a) = refl
 
-no-row : {A : Type 0} (K : Kind A) (s specs lens : List ℕ) (next position start end : ℕ) (given : Answer) (new : List A) (slots room : ℕ)
+no-row : {A : Type 0} (K : Kind A) (s specs lens : List ℕ) (next position start : ℕ) (end : End) (given : Answer) (new : List A) (slots room : ℕ)
     → parse s ≡ tab specs lens next → ltb position (length specs) ≡ false → edited K s position start end given new slots room ≡ stop 16 0
 unfolding edited
 no-row K s specs lens next position start end given new slots room e h = rw (e, h)
 
 -- the same answer and place, the same new table, the same new column; and the slots are the same by `alike-slots`
-pub demand-3 : {A : Type 0} (K : Kind A) (s s′ specs lens : List ℕ) (next position start end : ℕ) (given : Answer) (new : List A) (slots room : ℕ)
+pub demand-3 : {A : Type 0} (K : Kind A) (s s′ specs lens : List ℕ) (next position start : ℕ) (end : End) (given : Answer) (new : List A) (slots room : ℕ)
     → OnlyElsewhere s s′ specs lens next position → length s < 2 ^ 64 → room < 2 ^ 64
     → (answered (edited K s position start end given new slots room) ≡ answered (edited K s′ position start end given new slots room))
     × Alike K s s′ specs lens position (edited K s position start end given new slots room) (edited K s′ position start end given new slots room)

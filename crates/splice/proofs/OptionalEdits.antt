@@ -18,12 +18,13 @@ use Rattle.slots.specs.Splice.{spliced, inSlots}
 use Rattle.slots.proofs.Splicing.{map-spliced}
 use Rattle.splice.specs.Kind.{Kind, values}
 use Rattle.splice.specs.Edit.{Edited, endIn, flagsIn, givenOptional, refusal, answered, slotsLeft, outLeft}
+use Rattle.splice.specs.declared.End.{End}
 use Rattle.splice.specs.Contract.{slotIn, flagIn, OptionalSpliced}
 use Rattle.splice.specs.Ready.{Ready, Fits, Replaced, Good, Finished}
 use Rattle.splice.specs.Steps.{countAs, planned}
 use Rattle.splice.specs.declared.Spliced.{Spliced}
 use Rattle.splice.specs.declared.Planned.the-variants as plan
-use Rattle.splice.proofs.Planning.{sound-is, plan-stops, plan-ready}
+use Rattle.splice.proofs.Planning.{sound-is, plan-stops, plan-ready, in-order}
 use Rattle.splice.proofs.Replacing.{held-length, in-loaded, values-of, flags-of, back, flags-good, flags-kept}
 use Rattle.splice.proofs.Counting.{values-outcome}
 use Rattle.splice.proofs.Editing.{newList, new-length, edit-answer, edit-output, edit-slots}
@@ -49,7 +50,7 @@ list-length : {A : Type 0} (z : A) (new : List A) (flags : List ℕ) → length 
 list-length z new flags h = sym (held-length z new flags h) ∙ length-map (slotList new flags) (slotIn z)
 
 module _ {A : Type 0} (K : Kind (Option A)) (T : List ℕ → Trace (Reading A)) (same : (c : List ℕ) → K .reads c ≡ values (T c)) (z : A)
-    {s : List ℕ} {position start end at till old len : ℕ} (new : List A) (flags : List ℕ) (v : List A) (p : List ℕ)
+    {s : List ℕ} {position start : ℕ} {end : End} {at till old len : ℕ} (new : List A) (flags : List ℕ) (v : List A) (p : List ℕ)
     (R : Ready K s position start end (length new) (length v) at till old len) {g : ℕ}
     (given : givenOptional (length v) (length p) (length new) flags ≡ done g) where
   good : GoodNew (length v) (length p) (length new) flags
@@ -87,8 +88,8 @@ module _ {A : Type 0} (K : Kind (Option A)) (T : List ℕ → Trace (Reading A))
       pub optional-fits : length v₁ ≡ length v → length p₁ ≡ length p → Fits start e old (length new) (length flags) (length v₁) (length p₁)
       optional-fits k l =
           record {
-            ordered = omega (arith, least, R .located .ordered, R .starts);
-            within = omega (arith, least);
+            ordered = omega (arith, least, in-order old start end (R .not-below) (R .starts));
+            within = omega (arith, least, R .within);
             old-fits = omega (arith, k, R .old-fits);
             new-fits = omega (arith, k, least, R .new-fits, R .long);
             even = l ∙ sym (good .even) ∙ sym k;
@@ -145,7 +146,7 @@ module _ {A : Type 0} (K : Kind (Option A)) (T : List ℕ → Trace (Reading A))
             }
 
 -- ---- an edit of optional readings as it begins: by its plan
-module _ {A : Type 0} (K : Kind (Option A)) (z : A) (s : List ℕ) (position start end : ℕ) (new : List A) (flags : List ℕ) (v : List A) (p out : List ℕ)
+module _ {A : Type 0} (K : Kind (Option A)) (z : A) (s : List ℕ) (position start : ℕ) (end : End) (new : List A) (flags : List ℕ) (v : List A) (p out : List ℕ)
     (counts : (c : List ℕ) → countAs (K .low) c ≡ outcome (K .reads c)) where
   abbrev G : Answer
   G = givenOptional (length v) (length p) (length new) flags

@@ -27,10 +27,12 @@ use Rattle.block_frame.proofs.Tables.{table-fills}
 use Rattle.slots.specs.Splice.{spliced}
 use Rattle.slots.proofs.Splicing.{length-spliced}
 use Rattle.splice.specs.Kind.{Kind}
-use Rattle.splice.specs.Edit.{Edited, stop, endIn, serves, flagsIn, givenOptional, finished, editList, readBy, editColumn, editIn, edited}
+use Rattle.splice.specs.Edit.{Edited, stop, endIn, below, serves, flagsIn, givenOptional, finished, editList, readBy, editColumn, editIn, edited}
 use Rattle.splice.specs.Steps.{rowIn, rowFor, countAs, resultLength, resultJudged, onResult, onCount, onGiven, onRow, planned}
 use Rattle.splice.specs.Ready.{Located, Ready}
 use Rattle.splice.specs.declared.Row.the-variants as row
+use Rattle.splice.specs.declared.End.{End}
+use Rattle.splice.specs.declared.End.the-variants as ending
 use Rattle.splice.specs.declared.Planned.{Planned}
 use Rattle.splice.specs.declared.Planned.the-variants as plan
 
@@ -42,7 +44,7 @@ pub serves-to : (low high spec : ℕ) → low ≤ typeOf spec → serves low hig
 serves-to low high spec h = rw (le-leb low (typeOf spec) h)
 
 -- ---- the row
-module _ (low high : ℕ) (s : List ℕ) (position start end : ℕ) where
+module _ (low high : ℕ) (s : List ℕ) (position start : ℕ) (end : End) where
   pub row-bad : {number place : ℕ} → parse s ≡ faulty number place → row.Refused number place ≡ rowFor low high s position start end
   unfolding rowFor
   row-bad e = rw e
@@ -65,24 +67,24 @@ module _ (low high : ℕ) (s : List ℕ) (position start end : ℕ) where
       unfolding rowFor
       row-17 e = rw (g .is, lt-ltb position (length (specsOf o)) within, spec-at, e)
 
-      pub row-18 : serves low high (getD (o .table .specs) position 0) ≡ true → end < start → row.Refused 18 0 ≡ rowFor low high s position start end
+      pub row-18 : serves low high (getD (o .table .specs) position 0) ≡ true → below start end ≡ true → row.Refused 18 0 ≡ rowFor low high s position start end
       unfolding rowFor
-      row-18 e t = rw (g .is, lt-ltb position (length (specsOf o)) within, spec-at, e, lt-ltb end start t)
+      row-18 e t = rw (g .is, lt-ltb position (length (specsOf o)) within, spec-at, e, t)
 
-      pub row-given : serves low high (getD (o .table .specs) position 0) ≡ true → start ≤ end
+      pub row-given : serves low high (getD (o .table .specs) position 0) ≡ true → below start end ≡ false
           → row.At (o .start + getD (o .table .starts) position 0) (o .start + getD (o .table .starts) position 0 + getD (o .table .lens) position 0)
           ≡ rowFor low high s position start end
       unfolding rowFor
       row-given e t =
-          rw (g .is, lt-ltb position (length (specsOf o)) within, spec-at, e, le-ltb end start t, g .starts-are position h, ← len-at g h)
+          rw (g .is, lt-ltb position (length (specsOf o)) within, spec-at, e, t, g .starts-are position h, ← len-at g h)
 
 -- a row that was found
-module _ {low high : ℕ} {s : List ℕ} {position start end at till : ℕ} where
+module _ {low high : ℕ} {s : List ℕ} {position at till : ℕ} where
   located-in : (specs lens : List ℕ) (next : ℕ) → parse s ≡ tab specs lens next → position < length specs
-      → serves low high (getD specs position 0) ≡ true → start ≤ end
+      → serves low high (getD specs position 0) ≡ true
       → row.At (startOf lens next position) (startOf lens next position + getD lens position 0) ≡ row.At at till
-      → Located low high s position start end at till
-  located-in specs lens next e h v t q =
+      → Located low high s position at till
+  located-in specs lens next e h v q =
       let a : startOf lens next position ≡ at = cc in
       let b : startOf lens next position + getD lens position 0 ≡ till = cc in
       let f = table-fills s specs lens next e in
@@ -91,24 +93,23 @@ module _ {low high : ℕ} {s : List ℕ} {position start end at till : ℕ} wher
         at-is = sym a;
         till-is = sym b;
         ends = omega (arith, sum-to lens position (omega (arith, f .even)), f .whole, b);
-        ordered = t;
         served = v;
       }
 
-  pub row-found : row.At at till ≡ rowFor low high s position start end → Located low high s position start end at till
+  pub row-found : (start : ℕ) (end : End) → row.At at till ≡ rowFor low high s position start end
+      → Located low high s position at till × (below start end ≡ false)
   unfolding rowFor
-  row-found e = go (parse s) refl (sym e)
+  row-found start end e = go (parse s) refl (sym e)
     where
-      go : (t : Tab) → parse s ≡ t → rowIn low high position start end t ≡ row.At at till → Located low high s position start end at till
+      go : (t : Tab) → parse s ≡ t → rowIn low high position start end t ≡ row.At at till → Located low high s position at till × (below start end ≡ false)
       go (faulty number place) p q = let z : _≡_ {A = ℕ} 0 1 = cc in absurd (omega arith)
-      go (tab specs lens next) p q = rows (ltb position (length specs)) (serves low high (getD specs position 0)) (ltb end start) refl refl refl q
+      go (tab specs lens next) p q = rows (ltb position (length specs)) (serves low high (getD specs position 0)) (below start end) refl refl refl q
         where
-          rows : (a b c : Bool) → ltb position (length specs) ≡ a → serves low high (getD specs position 0) ≡ b → ltb end start ≡ c
+          rows : (a b c : Bool) → ltb position (length specs) ≡ a → serves low high (getD specs position 0) ≡ b → below start end ≡ c
               → cond a (cond b (cond c (row.Refused 18 0) (row.At (startOf lens next position) (startOf lens next position + getD lens position 0))) (row.Refused 17 0)) (row.Refused 16 0)
               ≡ row.At at till
-              → Located low high s position start end at till
-          rows true true false x y w q =
-              located-in specs lens next p (ltb-true position (length specs) x) y (ltb-false end start w) q
+              → Located low high s position at till × (below start end ≡ false)
+          rows true true false x y w q = (located-in specs lens next p (ltb-true position (length specs) x) y q, w)
           rows true true true x y w q = let z : _≡_ {A = ℕ} 0 1 = cc in absurd (omega arith)
           rows true false c x y w q = let z : _≡_ {A = ℕ} 0 1 = cc in absurd (omega arith)
           rows false b c x y w q = let z : _≡_ {A = ℕ} 0 1 = cc in absurd (omega arith)
@@ -161,26 +162,46 @@ unfolding countAs
 count-rest kind s g h = rw (ne-eqb kind 3 g, ne-eqb kind 4 h)
 
 -- ---- the result
-module _ (old start end new slots : ℕ) where
+-- a range that does not end below its start is ordered in any list that it starts in
+pub in-order : (old start : ℕ) (end : End) → below start end ≡ false → start ≤ old → start ≤ endIn end old
+in-order old start (ending.At e) h s = ltb-false e start h
+in-order old start ending.OfList h s = s
+
+module _ (old start : ℕ) (end : End) (new slots : ℕ) where
   pub result-past : old < start → refused 18 0 ≡ resultJudged old start end new slots
   unfolding resultJudged
   result-past h = rw (lt-ltb old start h)
 
   module _ (h : start ≤ old) where
-    pub result-many : limit < resultLength old start end new → refused 5 0 ≡ resultJudged old start end new slots
+    pub result-beyond : old < endIn end old → refused 18 0 ≡ resultJudged old start end new slots
     unfolding resultJudged
-    result-many m = rw (le-ltb old start h, lt-ltb limit (resultLength old start end new) m)
+    result-beyond b = rw (le-ltb old start h, lt-ltb old (endIn end old) b)
 
-    pub result-full : resultLength old start end new ≤ limit → slots < max old (resultLength old start end new) → refused 9 0 ≡ resultJudged old start end new slots
-    unfolding resultJudged
-    result-full m f =
-        rw (le-ltb old start h, le-ltb limit (resultLength old start end new) m, lt-ltb slots (max old (resultLength old start end new)) f)
+    module _ (w : endIn end old ≤ old) where
+      pub result-many : limit < resultLength old start end new → refused 5 0 ≡ resultJudged old start end new slots
+      unfolding resultJudged
+      result-many m = rw (le-ltb old start h, le-ltb old (endIn end old) w, lt-ltb limit (resultLength old start end new) m)
 
-    pub result-done : {n : ℕ} → resultLength old start end new ≤ limit → max old (resultLength old start end new) ≤ slots → n ≡ resultLength old start end new
-        → done n ≡ resultJudged old start end new slots
-    unfolding resultJudged
-    result-done m f e =
-        rw (le-ltb old start h, le-ltb limit (resultLength old start end new) m, le-ltb slots (max old (resultLength old start end new)) f) (ap done e)
+      pub result-full : resultLength old start end new ≤ limit → slots < max old (resultLength old start end new) → refused 9 0 ≡ resultJudged old start end new slots
+      unfolding resultJudged
+      result-full m f =
+          rw (
+            le-ltb old start h,
+            le-ltb old (endIn end old) w,
+            le-ltb limit (resultLength old start end new) m,
+            lt-ltb slots (max old (resultLength old start end new)) f,
+          )
+
+      pub result-done : {n : ℕ} → resultLength old start end new ≤ limit → max old (resultLength old start end new) ≤ slots → n ≡ resultLength old start end new
+          → done n ≡ resultJudged old start end new slots
+      unfolding resultJudged
+      result-done m f e =
+          rw (
+            le-ltb old start h,
+            le-ltb old (endIn end old) w,
+            le-ltb limit (resultLength old start end new) m,
+            le-ltb slots (max old (resultLength old start end new)) f,
+          ) (ap done e)
 
 -- ---- a column's readings, where it is sound
 pub sound-is : {R : Type 0} (t : Trace R) {n : ℕ} → outcome t ≡ done n → length (t .readings) ≡ n
@@ -192,7 +213,7 @@ sound-is t {n} e = go (t .ending) e
     go (fault number place) q = let z : _≡_ {A = ℕ} 0 1 = cc in absurd (omega arith)
 
 -- ---- THE CHECKS ARE THOSE OF AN EDIT, over the kind of column
-module _ {A : Type 0} (K : Kind A) (counts : (c : List ℕ) → countAs (K .low) c ≡ outcome (K .reads c)) (s : List ℕ) (position start end : ℕ)
+module _ {A : Type 0} (K : Kind A) (counts : (c : List ℕ) → countAs (K .low) c ≡ outcome (K .reads c)) (s : List ℕ) (position start : ℕ) (end : End)
     (given : Answer) (new : List A) (n : ℕ) (many : (g : ℕ) → given ≡ done g → n ≡ length new) (slots room : ℕ) where
   -- the edit that a plan stands for: the refusal; or ready, and the new readings are good
   abbrev Follows : Planned → Edited A → Type 0
@@ -200,7 +221,7 @@ module _ {A : Type 0} (K : Kind A) (counts : (c : List ℕ) → countAs (K .low)
   Follows (plan.Ready at till old len) e = Ready K s position start end n slots at till old len × ((g : ℕ) × (given ≡ done g))
 
   module _ (specs lens : List ℕ) (next : ℕ) (e : parse s ≡ tab specs lens next) (h : position < length specs)
-      (v : serves (K .low) (K .high) (getD specs position 0) ≡ true) (t : start ≤ end) where
+      (v : serves (K .low) (K .high) (getD specs position 0) ≡ true) (t : below start end ≡ false) where
     abbrev at : ℕ
     at = startOf lens next position
 
@@ -228,17 +249,19 @@ module _ {A : Type 0} (K : Kind A) (counts : (c : List ℕ) → countAs (K .low)
         xs : List A
         xs = spliced (K .reads column .readings) start (endIn end k) new
 
-        fits : (b c : Bool) → start ≤ k → ltb limit L ≡ b → ltb slots (max k L) ≡ c
+        fits : (b c : Bool) → start ≤ k → endIn end k ≤ k → ltb limit L ≡ b → ltb slots (max k L) ≡ c
             → Follows (onResult at (at + len) k (cond b (refused 5 0) (cond c (refused 9 0) (done L))))
             (cond b (stop 5 0) (cond c (stop 9 0) (finished K k xs room (newBlock s specs lens next position) (K .wide xs))))
-        fits true c m x y = refl
-        fits false true m x y = refl
-        fits false false m x y =
+        fits true c m w x y = refl
+        fits false true m w x y = refl
+        fits false false m w x y =
             let y′ = ltb-false slots (max k L) y in (
               record {
-                located = located-in specs lens next e h v t refl;
+                located = located-in specs lens next e h v refl;
                 reads = ap (λ (c : List ℕ). outcome (K .reads c)) part-is ∙ o ∙ ap done (sym (sound-is (K .reads column) o));
                 starts = m;
+                not-below = t;
+                within = w;
                 long = refl;
                 few = ltb-false limit L x;
                 old-fits = omega (arith, y′);
@@ -247,16 +270,25 @@ module _ {A : Type 0} (K : Kind A) (counts : (c : List ℕ) → countAs (K .low)
               g,
             )
 
-        starts : (a : Bool) → ltb k start ≡ a
+        ends : (a : Bool) → start ≤ k → ltb k (endIn end k) ≡ a
             → Follows (onResult at (at + len) k (cond a (refused 18 0) (cond (ltb limit L) (refused 5 0) (cond (ltb slots (max k L)) (refused 9 0) (done L)))))
             (cond a (stop 18 0)
             (cond (ltb limit (length xs)) (stop 5 0)
             (cond (ltb slots (max k (length xs))) (stop 9 0) (finished K k xs room (newBlock s specs lens next position) (K .wide xs)))))
+        ends true m x = refl
+        ends false m x =
+            let w = ltb-false k (endIn end k) x in
+            let l : length xs ≡ L = length-spliced (K .reads column .readings) start (endIn end k) new (in-order k start end t m) w ∙ ap (λ (j : ℕ). resultLength k start end j) (sym (many (g .0) (g .1))) in
+            rw l (fits (ltb limit L) (ltb slots (max k L)) m w refl refl)
+
+        starts : (a : Bool) → ltb k start ≡ a
+            → Follows (onResult at (at + len) k (cond a (refused 18 0) (cond (ltb k (endIn end k)) (refused 18 0) (cond (ltb limit L) (refused 5 0) (cond (ltb slots (max k L)) (refused 9 0) (done L))))))
+            (cond a (stop 18 0)
+            (cond (ltb k (endIn end k)) (stop 18 0)
+            (cond (ltb limit (length xs)) (stop 5 0)
+            (cond (ltb slots (max k (length xs))) (stop 9 0) (finished K k xs room (newBlock s specs lens next position) (K .wide xs))))))
         starts true x = refl
-        starts false x =
-            let m = ltb-false k start x in
-            let l : length xs ≡ L = length-spliced (K .reads column .readings) start (endIn end k) new (omega (arith, m)) (omega arith) ∙ ap (λ (j : ℕ). resultLength k start end j) (sym (many (g .0) (g .1))) in
-            rw l (fits (ltb limit L) (ltb slots (max k L)) m refl refl)
+        starts false x = ends (ltb k (endIn end k)) (ltb-false k start x) refl
 
     follows-count : (o : Answer) → outcome (K .reads column) ≡ o → ((g : ℕ) × (given ≡ done g))
         → Follows (onCount at (at + len) start end n slots o)
@@ -273,9 +305,9 @@ module _ {A : Type 0} (K : Kind A) (counts : (c : List ℕ) → countAs (K .low)
   follows-in : (t : Tab) → parse s ≡ t
       → Follows (onRow (K .low) s start end given n slots (rowIn (K .low) (K .high) position start end t)) (editIn K s position start end given new slots room t)
   follows-in (faulty number place) e = refl
-  follows-in (tab specs lens next) e = rows (ltb position (length specs)) (serves (K .low) (K .high) (getD specs position 0)) (ltb end start) refl refl refl
+  follows-in (tab specs lens next) e = rows (ltb position (length specs)) (serves (K .low) (K .high) (getD specs position 0)) (below start end) refl refl refl
     where
-      rows : (a b c : Bool) → ltb position (length specs) ≡ a → serves (K .low) (K .high) (getD specs position 0) ≡ b → ltb end start ≡ c
+      rows : (a b c : Bool) → ltb position (length specs) ≡ a → serves (K .low) (K .high) (getD specs position 0) ≡ b → below start end ≡ c
           → Follows (onRow (K .low) s start end given n slots
           (cond a (cond b (cond c (row.Refused 18 0) (row.At (startOf lens next position) (startOf lens next position + getD lens position 0))) (row.Refused 17 0)) (row.Refused 16 0)))
           (cond a
@@ -285,7 +317,7 @@ module _ {A : Type 0} (K : Kind A) (counts : (c : List ℕ) → countAs (K .low)
       rows true false c x y w = refl
       rows true true true x y w = refl
       rows true true false x y w =
-          follows-given specs lens next e (ltb-true position (length specs) x) y (ltb-false end start w) given refl
+          follows-given specs lens next e (ltb-true position (length specs) x) y w given refl
 
   follows : Follows (planned (K .low) (K .high) s position start end given n slots) (edited K s position start end given new slots room)
   unfolding rowFor edited

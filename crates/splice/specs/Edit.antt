@@ -1,9 +1,10 @@
 -- 01, "Editing", over the kind of column. "Order: table faults; 16; 17; 18 for end below start; 8; column faults; 18 for start beyond the
--- list; 5 for the result; 9 when slots are fewer than the longer of old and new list; 7; 10."
-use Prim.Native.Nat.{ℕ, _+_, min, max}
+-- list; 5 for the result; 9 when slots are fewer than the longer of old and new list; 7; 10." 02, [12]: "Refuse an edit whose end lies beyond
+-- the list with 18, where the start is checked."
+use Prim.Native.Nat.{ℕ, _+_, max}
 use mathlib.Core.List.{List, _++_, map}
 use mathlib.Core.Option.{Option, none, some}
-use mathlib.Core.Bool.{Bool, cond, _&&_}
+use mathlib.Core.Bool.{Bool, false, cond, _&&_}
 use lib.Dec.{ltb, leb, eqb}
 use lib.ListN.{length, getD, take, drop}
 use Rattle.leb128.specs.Answer.{Answer, done, refused}
@@ -18,6 +19,8 @@ use Rattle.raw_column.specs.Rows.{noTable, opened}
 use Rattle.slots.specs.Splice.{spliced, inSlots}
 use Rattle.splice.specs.Kind.{Kind}
 use Rattle.splice.specs.declared.Spliced.{Spliced}
+use Rattle.splice.specs.declared.End.{End}
+use Rattle.splice.specs.declared.End.the-variants as ending
 
 -- what an edit comes to: stopped, and nothing is changed; late, with 7 or 10, and the slots hold the new list; accepted, with the new block.
 -- `old` is the old list's length
@@ -26,9 +29,15 @@ pub data Edited (A : Type 0) : Type 0 where
   late : ℕ → ℕ → ℕ → List A → Edited A
   accepted : ℕ → List A → List ℕ → Edited A
 
--- "The end counts as the list's length when it is larger, as in the Rust."
-abbrev pub endIn : ℕ → ℕ → ℕ
-endIn end old = min end old
+-- where a range ends in a list of so many readings: at the index given, or, for the call of 02, [12], "that takes only a start", with the list
+abbrev pub endIn : End → ℕ → ℕ
+endIn (ending.At e) old = e
+endIn ending.OfList old = old
+
+-- "18 for end below start", which needs no list
+abbrev pub below : ℕ → End → Bool
+below start (ending.At e) = ltb e start
+below start ending.OfList = false
 
 -- refusal 17: is the specification's type one from low to high?
 abbrev pub serves : ℕ → ℕ → ℕ → Bool
@@ -52,35 +61,36 @@ module _ {A : Type 0} (K : Kind A) where
   finished old xs room block none =
       cond (leb (length (block (K .writes xs))) room) (accepted old xs (block (K .writes xs))) (late 10 0 old xs)
 
-  -- 18 for the start, 5 and 9, of a column that reads as `old`
-  abbrev pub editList : List A → ℕ → ℕ → List A → ℕ → ℕ → (List ℕ → List ℕ) → Edited A
+  -- 18 for the start and the end, 5 and 9, of a column that reads as `old`
+  abbrev pub editList : List A → ℕ → End → List A → ℕ → ℕ → (List ℕ → List ℕ) → Edited A
   editList old start end new slots room block =
       let n = length old in
       let xs = spliced old start (endIn end n) new in
       cond (ltb n start) (stop 18 0)
+      (cond (ltb n (endIn end n)) (stop 18 0)
       (cond (ltb limit (length xs)) (stop 5 0)
       (cond (ltb slots (max n (length xs))) (stop 9 0)
-      (finished n xs room block (K .wide xs))))
+      (finished n xs room block (K .wide xs)))))
 
   abbrev pub readBy : Answer → List A → (List A → Edited A) → Edited A
   readBy (done n) old k = k old
   readBy (refused number place) old k = stop number place
 
   -- 8 and column faults
-  abbrev pub editColumn : List ℕ → ℕ → ℕ → Answer → List A → ℕ → ℕ → (List ℕ → List ℕ) → Edited A
+  abbrev pub editColumn : List ℕ → ℕ → End → Answer → List A → ℕ → ℕ → (List ℕ → List ℕ) → Edited A
   editColumn column start end (refused number place) new slots room block = stop number place
   editColumn column start end (done g) new slots room block =
       readBy (outcome (K .reads column)) (K .reads column .readings) (λ old. editList old start end new slots room block)
 
-  -- 17 and 18 for the end
-  abbrev pub editRow : List ℕ → ℕ → ℕ → ℕ → Answer → List A → ℕ → ℕ → (List ℕ → List ℕ) → Edited A
+  -- 17 and 18 for end below start
+  abbrev pub editRow : List ℕ → ℕ → ℕ → End → Answer → List A → ℕ → ℕ → (List ℕ → List ℕ) → Edited A
   editRow column spec start end given new slots room block =
       cond (serves (K .low) (K .high) spec)
-      (cond (ltb end start) (stop 18 0) (editColumn column start end given new slots room block))
+      (cond (below start end) (stop 18 0) (editColumn column start end given new slots room block))
       (stop 17 0)
 
   -- table faults and 16
-  abbrev pub editIn : List ℕ → ℕ → ℕ → ℕ → Answer → List A → ℕ → ℕ → Tab → Edited A
+  abbrev pub editIn : List ℕ → ℕ → ℕ → End → Answer → List A → ℕ → ℕ → Tab → Edited A
   editIn s position start end given new slots room (faulty number place) = stop number place
   editIn s position start end given new slots room (tab specs lens next) =
       cond (ltb position (length specs))
@@ -88,7 +98,7 @@ module _ {A : Type 0} (K : Kind A) where
       (λ column. newBlock s specs lens next position column))
       (stop 16 0)
 
-  unfoldable pub edited : List ℕ → ℕ → ℕ → ℕ → Answer → List A → ℕ → ℕ → Edited A
+  unfoldable pub edited : List ℕ → ℕ → ℕ → End → Answer → List A → ℕ → ℕ → Edited A
   edited s position start end given new slots room = editIn s position start end given new slots room (parse s)
 
 -- what is answered: the new block's length and its table, as anyone reads it; or the refusal with a table of no rows

@@ -3,7 +3,7 @@ use Prim.Native.Nat.{ℕ, _+_, _-_, _≤_, _<_}
 use mathlib.Core.Path.{_≡_}
 use mathlib.Core.List.{List, _++_, map}
 use mathlib.Core.Option.{none}
-use mathlib.Core.Bool.{true}
+use mathlib.Core.Bool.{true, false}
 use lib.ListN.{length, getD, take, drop}
 use Rattle.leb128.specs.Answer.{done}
 use Rattle.encoding.specs.Limit.{limit}
@@ -14,10 +14,11 @@ use Rattle.block_frame.specs.Columns.{newBlock}
 use Rattle.column_part.specs.Part.{startOf}
 use Rattle.slots.specs.Splice.{spliced, inSlots}
 use Rattle.splice.specs.Kind.{Kind}
-use Rattle.splice.specs.Edit.{Edited, stop, serves, finished, answered, outLeft}
+use Rattle.splice.specs.Edit.{Edited, stop, endIn, below, serves, finished, answered, outLeft}
 use Rattle.splice.specs.Contract.{slotIn}
 use Rattle.splice.specs.Steps.{resultLength}
 use Rattle.splice.specs.declared.Spliced.{Spliced}
+use Rattle.splice.specs.declared.End.{End}
 
 -- the row at a position, of a table that was accepted
 pub record HasRow (s : List ℕ) (position : ℕ) : Type 0 where
@@ -27,20 +28,21 @@ pub record HasRow (s : List ℕ) (position : ℕ) : Type 0 where
   pub is : parse s ≡ tab specs lens next
   pub there : position < length specs
 
--- a row of a type from low to high for a range that is ordered, its column from `at` up to `till`
-pub record Located (low high : ℕ) (s : List ℕ) (position start end at till : ℕ) : Type 0 where
+-- a row of a type from low to high, its column from `at` up to `till`
+pub record Located (low high : ℕ) (s : List ℕ) (position at till : ℕ) : Type 0 where
   pub row : HasRow s position
   pub served : serves low high (getD (row .specs) position 0) ≡ true
   pub at-is : at ≡ startOf (row .lens) (row .next) position
   pub till-is : till ≡ startOf (row .lens) (row .next) position + getD (row .lens) position 0
   pub ends : till ≤ length s
-  pub ordered : start ≤ end
 
 -- an edit that no check stops before the slots are filled: its column has `old` readings, and the new list `len`
-pub record Ready {A : Type 0} (K : Kind A) (s : List ℕ) (position start end new slots at till old len : ℕ) : Type 0 where
-  pub located : Located (K .low) (K .high) s position start end at till
+pub record Ready {A : Type 0} (K : Kind A) (s : List ℕ) (position start : ℕ) (end : End) (new slots at till old len : ℕ) : Type 0 where
+  pub located : Located (K .low) (K .high) s position at till
   pub reads : outcome (K .reads (take (till - at) (drop at s))) ≡ done old
   pub starts : start ≤ old
+  pub not-below : below start end ≡ false
+  pub within : endIn end old ≤ old
   pub long : len ≡ resultLength old start end new
   pub few : len ≤ limit
   pub old-fits : old ≤ slots

@@ -14,23 +14,24 @@ use Rattle.delta_decoder.specs.Sums.{deltaTrace}
 use Rattle.boolean_decoder.specs.Turns.{boolTrace}
 use Rattle.raw_column.specs.Table.{Tab, tab, faulty, parse}
 use Rattle.column_part.specs.Part.{startOf}
-use Rattle.splice.specs.Edit.{endIn, serves}
+use Rattle.splice.specs.Edit.{endIn, below, serves}
+use Rattle.splice.specs.declared.End.{End}
 use Rattle.splice.specs.declared.Row.{Row}
 use Rattle.splice.specs.declared.Row.the-variants as row
 use Rattle.splice.specs.declared.Planned.{Planned}
 use Rattle.splice.specs.declared.Planned.the-variants as plan
 
 -- table faults; 16; 17; 18 for end below start
-abbrev pub rowIn : ℕ → ℕ → ℕ → ℕ → ℕ → Tab → Row
+abbrev pub rowIn : ℕ → ℕ → ℕ → ℕ → End → Tab → Row
 rowIn low high position start end (faulty number place) = row.Refused number place
 rowIn low high position start end (tab specs lens next) =
     cond (ltb position (length specs))
     (cond (serves low high (getD specs position 0))
-    (cond (ltb end start) (row.Refused 18 0) (row.At (startOf lens next position) (startOf lens next position + getD lens position 0)))
+    (cond (below start end) (row.Refused 18 0) (row.At (startOf lens next position) (startOf lens next position + getD lens position 0)))
     (row.Refused 17 0))
     (row.Refused 16 0)
 
-unfoldable pub rowFor : ℕ → ℕ → List ℕ → ℕ → ℕ → ℕ → Row
+unfoldable pub rowFor : ℕ → ℕ → List ℕ → ℕ → ℕ → End → Row
 rowFor low high s position start end = rowIn low high position start end (parse s)
 
 -- a column's readings counted as those of the kind whose lowest type this is
@@ -38,35 +39,36 @@ unfoldable pub countAs : ℕ → List ℕ → Answer
 countAs kind s = cond (eqb kind 3) (outcome (deltaTrace s)) (cond (eqb kind 4) (outcome (boolTrace s)) (outcome (trace u64E s)))
 
 -- the new list's length
-abbrev pub resultLength : ℕ → ℕ → ℕ → ℕ → ℕ
+abbrev pub resultLength : ℕ → ℕ → End → ℕ → ℕ
 resultLength old start end new = start + new + (old - endIn end old)
 
--- 18 for start beyond the list; 5 for the result; 9
-unfoldable pub resultJudged : ℕ → ℕ → ℕ → ℕ → ℕ → Answer
+-- 18 for start or end beyond the list; 5 for the result; 9
+unfoldable pub resultJudged : ℕ → ℕ → End → ℕ → ℕ → Answer
 resultJudged old start end new slots =
     cond (ltb old start) (refused 18 0)
+    (cond (ltb old (endIn end old)) (refused 18 0)
     (cond (ltb limit (resultLength old start end new)) (refused 5 0)
     (cond (ltb slots (max old (resultLength old start end new))) (refused 9 0)
-    (done (resultLength old start end new))))
+    (done (resultLength old start end new)))))
 
 abbrev pub onResult : ℕ → ℕ → ℕ → Answer → Planned
 onResult at till old (done n) = plan.Ready at till old n
 onResult at till old (refused number place) = plan.Refused number place
 
-abbrev pub onCount : ℕ → ℕ → ℕ → ℕ → ℕ → ℕ → Answer → Planned
+abbrev pub onCount : ℕ → ℕ → ℕ → End → ℕ → ℕ → Answer → Planned
 onCount at till start end new slots (done old) = onResult at till old (resultJudged old start end new slots)
 onCount at till start end new slots (refused number place) = plan.Refused number place
 
-abbrev pub columnPlanned : ℕ → List ℕ → ℕ → ℕ → ℕ → ℕ → ℕ → ℕ → Planned
+abbrev pub columnPlanned : ℕ → List ℕ → ℕ → ℕ → ℕ → End → ℕ → ℕ → Planned
 columnPlanned kind s at till start end new slots = onCount at till start end new slots (countAs kind (take (till - at) (drop at s)))
 
-abbrev pub onGiven : ℕ → List ℕ → ℕ → ℕ → ℕ → ℕ → ℕ → ℕ → Answer → Planned
+abbrev pub onGiven : ℕ → List ℕ → ℕ → ℕ → ℕ → End → ℕ → ℕ → Answer → Planned
 onGiven kind s at till start end new slots (done g) = columnPlanned kind s at till start end new slots
 onGiven kind s at till start end new slots (refused number place) = plan.Refused number place
 
-abbrev pub onRow : ℕ → List ℕ → ℕ → ℕ → Answer → ℕ → ℕ → Row → Planned
+abbrev pub onRow : ℕ → List ℕ → ℕ → End → Answer → ℕ → ℕ → Row → Planned
 onRow kind s start end given new slots (row.At at till) = onGiven kind s at till start end new slots given
 onRow kind s start end given new slots (row.Refused number place) = plan.Refused number place
 
-abbrev pub planned : ℕ → ℕ → List ℕ → ℕ → ℕ → ℕ → Answer → ℕ → ℕ → Planned
+abbrev pub planned : ℕ → ℕ → List ℕ → ℕ → ℕ → End → Answer → ℕ → ℕ → Planned
 planned low high s position start end given new slots = onRow low s start end given new slots (rowFor low high s position start end)

@@ -2,11 +2,12 @@
 // readings is the same for every kind of column.
 ghost use mathlib.Core.Path.{_≡_};
 ghost use Prim.Native.Nat.{_+_, _≤_};
+ghost use mathlib.Core.Bool.{false};
 ghost use lib.Dec.{leb};
 ghost use lib.ListN.{length, take};
 ghost use Rattle.encoding.specs.Answers.{answerOf};
 ghost use Rattle.encoding.specs.Limit.{limit};
-ghost use Rattle.splice.specs.Edit.{endIn, serves, givenOptional, refusal, acceptance};
+ghost use Rattle.splice.specs.Edit.{endIn, below, serves, givenOptional, refusal, acceptance};
 ghost use Rattle.splice.specs.Steps.{rowFor, countAs, resultJudged, onResult, columnPlanned, planned};
 use column_specification::ColumnSpec;
 use encoding::Answer;
@@ -19,6 +20,12 @@ pub struct Spliced {
     pub number: u8,
     pub place: usize,
     pub len: usize,
+}
+
+// Where a range of readings ends: before the reading at an index, or where the list does.
+pub enum End {
+    At(usize),
+    OfList,
 }
 
 // Where a row's column begins and ends in its block; or a refusal.
@@ -56,8 +63,18 @@ fn has_type(spec: u32, low: u8, high: u8) -> bool
     t <= high
 }
 
+// Does a range end below its start, whatever the list?
+fn is_below(end: End, start: usize) -> bool
+    ensures { λ r. ⌜ r ≡ below start end ⌝ }
+{
+    match end {
+        End::At(e) => e < start,
+        End::OfList => false,
+    }
+}
+
 // Table faults, 16, 17, and 18 for an end below its start.
-fn row_at(block: &[u8], position: usize, low: u8, high: u8, start: usize, end: usize) -> Row
+fn row_at(block: &[u8], position: usize, low: u8, high: u8, start: usize, end: End) -> Row
     ensures { λ r. ⌜ r ≡ rowFor low high (now (block .entry)) position start end ⌝ }
 {
     let o = read_table(block);
@@ -71,7 +88,7 @@ fn row_at(block: &[u8], position: usize, low: u8, high: u8, start: usize, end: u
     if !has_type(t.specs[position], low, high) {
         return Row::Refused(17, 0);
     }
-    if end < start {
+    if is_below(end, start) {
         return Row::Refused(18, 0);
     }
     let at = o.start + t.starts[position] as usize;
@@ -109,14 +126,14 @@ fn count_as(kind: u8, column: &[u8]) -> Answer
     rle_decoder::count(column)
 }
 
-// An end past the list counts as its length.
-pub fn least(end: usize, old: usize) -> usize
+// Where the range ends in a list of so many readings.
+pub fn end_in(end: End, old: usize) -> usize
     ensures { λ r. ⌜ r ≡ endIn end old ⌝ }
 {
-    if old < end {
-        return old;
+    match end {
+        End::At(e) => e,
+        End::OfList => old,
     }
-    end
 }
 
 // May a list have so many readings and so many more?
@@ -129,15 +146,19 @@ fn may_have(kept: usize, new: usize) -> bool
     new <= LIMIT - kept
 }
 
-// 18 for a start beyond the list, 5 for the result, 9; or the new list's length.
-fn judge_result(old: usize, start: usize, end: usize, new: usize, slots: usize) -> Answer
-    requires { ⌜ start ≤ end ⌝ }
+// 18 for a start or an end beyond the list, 5 for the result, 9; or the new list's length.
+fn judge_result(old: usize, start: usize, end: End, new: usize, slots: usize) -> Answer
+    requires { ⌜ below start end ≡ false ⌝ }
     ensures { λ r. ⌜ answerOf r ≡ resultJudged old start end new slots ⌝ }
 {
     if old < start {
         return Answer::Refused(18, 0);
     }
-    let kept = start + (old - least(end, old));
+    let e = end_in(end, old);
+    if old < e {
+        return Answer::Refused(18, 0);
+    }
+    let kept = start + (old - e);
     if !may_have(kept, new) {
         return Answer::Refused(5, 0);
     }
@@ -157,11 +178,11 @@ fn plan_result(
     till: usize,
     old: usize,
     start: usize,
-    end: usize,
+    end: End,
     new: usize,
     slots: usize,
 ) -> Planned
-    requires { ⌜ start ≤ end ⌝ }
+    requires { ⌜ below start end ≡ false ⌝ }
     ensures { λ r. ⌜ r ≡ onResult at till old (resultJudged old start end new slots) ⌝ }
 {
     match judge_result(old, start, end, new, slots) {
@@ -177,11 +198,11 @@ fn plan_column(
     till: usize,
     kind: u8,
     start: usize,
-    end: usize,
+    end: End,
     new: usize,
     slots: usize,
 ) -> Planned
-    requires { ⌜ (at ≤ till) × (till ≤ length (now block)) × (start ≤ end) ⌝ }
+    requires { ⌜ (at ≤ till) × (till ≤ length (now block)) × (below start end ≡ false) ⌝ }
     ensures { λ r. ⌜ r ≡ columnPlanned kind (now (block .entry)) at till start end new slots ⌝ }
 {
     match count_as(kind, &block[at..till]) {
@@ -197,7 +218,7 @@ pub fn plan(
     low: u8,
     high: u8,
     start: usize,
-    end: usize,
+    end: End,
     new: usize,
     flags: &[u8],
     values: usize,

@@ -1,4 +1,5 @@
-// tablet edit FILE COLUMN START END READING.. --to OUT: a range of a column's readings replaced, in a new block.
+// tablet edit FILE COLUMN START END READING.. --to OUT: a range of a column's readings replaced, in a new block. END may be `end`, for all
+// readings from START on.
 ghost use mathlib.Core.Path.{_≡_};
 ghost use Prim.Native.Nat.{_+_, _-_, _^_, min};
 use crate::apply;
@@ -116,7 +117,7 @@ fn finish(
             to,
             block,
             r.position,
-            edited_len(w.old, r.start, r.end, new),
+            edited_len(w.old, r.start, end_of(r, w.old), new),
             desk,
         );
     }
@@ -184,11 +185,26 @@ fn edit_to(line: &[u8], option: usize, over: bool, desk: Desk) -> bool {
 
 // START and END.
 fn range_of(line: &[u8], position: usize, desk: Desk) -> Range {
+    let start = column::place(words::word(line, 3), b"START", desk);
+    if check::same(words::word(line, 4), b"end") {
+        return Range {
+            position,
+            start,
+            end: 0,
+            to_end: true,
+        };
+    }
     Range {
         position,
-        start: column::place(words::word(line, 3), b"START", desk),
+        start,
         end: column::place(words::word(line, 4), b"END", desk),
+        to_end: false,
     }
+}
+
+// Where a range ends in a list of so many readings.
+fn end_of(r: Range, old: usize) -> usize {
+    if r.to_end { old } else { r.end }
 }
 
 fn is_whole(r: Range) -> bool {

@@ -22,7 +22,7 @@ fn say_writing(p: Pen) -> Pen {
         p,
         b"  tablet edit FILE COLUMN START END READING.. --to OUT [--over]
                                replaces the readings from START up to, not including, END by those given (none: takes
-                               them out), and writes the new block to OUT
+                               them out), and writes the new block to OUT; the word end for END means to the list's end
   tablet make OUT COLUMN.. [--over]
                                a new block of columns, each TYPE:ID=READING,READING,..  as in
                                tablet make my.block delta:1=80,80,-,81 boolean:2=1,0,0 integer:3=7,7,7

@@ -186,6 +186,7 @@ fn replace(
         position,
         start: 0,
         end: 0,
+        to_end: false,
     };
     let e = apply::apply(between(block, 0, len), r, kind, new, present, &mut out);
     if e.number != 0 {

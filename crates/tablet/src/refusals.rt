@@ -23,7 +23,7 @@ the columns are longer than the data\0\
 the columns are shorter than the data\0\
 there is no column at this position\0\
 columns of this type are not read here\0\
-the range ends before it starts, or starts behind the list\0\
+the range ends before it starts, or reaches past the list\0\
 an id is at most 268,435,455\0";
     pen::text(p, words::word(all, number as usize))
 }

@@ -32,7 +32,8 @@ pub struct Edit {
     pub block: Vec<u8>,
     pub position: u64,
     pub start: u64,
-    pub end: u64,
+    /// none: to the end of the list, by the call that takes only a start
+    pub end: Option<u64>,
     pub new: Slices,
     pub slots: Slices,
     pub out: Vec<u8>,
@@ -87,7 +88,7 @@ pub fn ready(served: &Served, edit: &Edit) -> Result<Ready, Fault> {
     if !served.types.contains(&specifications::col_type(row.0)) {
         return Err((17, Some(0)));
     }
-    if edit.end < edit.start {
+    if edit.end.is_some_and(|end| end < edit.start) {
         return Err((18, Some(0)));
     }
     judge_given(edit)?;
@@ -98,8 +99,12 @@ pub fn ready(served: &Served, edit: &Edit) -> Result<Ready, Fault> {
     if edit.start > old as u64 {
         return Err((18, Some(0)));
     }
-    let end = edit.end.min(old as u64) as usize;
-    list.splice(edit.start as usize..end, readings(&edit.new));
+    let end = edit.end.unwrap_or(old as u64);
+    // document 02, [12]; the crate counts such an end as the list's length
+    if end > old as u64 {
+        return Err((18, Some(0)));
+    }
+    list.splice(edit.start as usize..end as usize, readings(&edit.new));
     if edit.slots[0].len() < old.max(list.len()) {
         return Err((9, Some(0)));
     }
@@ -121,8 +126,7 @@ fn fill(served: &Served, edit: &mut Edit, ready: &Ready) {
 pub fn new_column(served: &Served, edit: &Edit, ready: &Ready) -> Result<Vec<u8>, Fault> {
     let by_01 = |(refusal, place)| (refusal, Some(place));
     let encoded = (served.encode)(&ready.list).map_err(by_01)?;
-    // the crate counts a range through to its end: three past the list stands for all that are further
-    let end = edit.end.min(ready.old as u64 + 3) as usize;
+    let end = edit.end.unwrap_or(ready.old as u64) as usize;
     let new = readings(&edit.new);
     let column = (served.splice)(&ready.column, edit.start as usize, end, &new).unwrap();
     assert_eq!(column, encoded, "the crate's splice, and its encoder");
@@ -146,11 +150,14 @@ pub fn record(out: &mut String, served: &Served, mut edit: Edit) {
     let record = Record::call(served.call)
         .bytes(&edit.block)
         .number(edit.position)
-        .number(edit.start)
-        .number(edit.end)
-        .lists(&edit.new)
-        .lists(&edit.slots)
-        .bytes(&edit.out);
+        .number(edit.start);
+    let record = match edit.end {
+        Some(end) => record.number(end),
+        None => record.field("end"),
+    }
+    .lists(&edit.new)
+    .lists(&edit.slots)
+    .bytes(&edit.out);
     let finished = ready(served, &edit).and_then(|ready| {
         fill(served, &mut edit, &ready);
         finish(served, &mut edit, &ready)

@@ -152,12 +152,12 @@ fn lend(served: &Served, edit: &mut Edit, slots_short: u64, out_short: u64, rand
 }
 
 /// An edit with nothing lent yet.
-fn edit((block, position): (Vec<u8>, u64), (start, end): (usize, usize), new: Slices) -> Edit {
+fn edit((block, position): (Vec<u8>, u64), (start, end): (u64, Option<u64>), new: Slices) -> Edit {
     Edit {
         block,
         position,
-        start: start as u64,
-        end: end as u64,
+        start,
+        end,
         new,
         slots: vec![],
         out: vec![],
@@ -182,15 +182,17 @@ pub fn all(out: &mut String, options: &Options, random: &mut Random) {
     }
 }
 
-/// All old lists, all ranges in them and past their end, and all new readings, of few; lean: of fewer.
+/// All old lists, all ranges in them, past their end and to it, and all new readings, of few; lean: of fewer.
 fn small(out: &mut String, options: &Options, random: &mut Random, column: &Column) {
-    let (most, most_new, past) = if options.lean { (3, 1, 1) } else { (4, 2, 2) };
+    let (most, most_new, past): (usize, usize, u64) =
+        if options.lean { (3, 1, 1) } else { (4, 2, 2) };
     let most_new = most_new + 2 - column.served.slices;
     let mut place = 0;
     all_lists(column.few.len(), most, |kinds| {
         let old: Vec<Reading> = kinds.iter().map(|&kind| column.few[kind]).collect();
-        for start in 0..=old.len() {
-            for end in start..=old.len() + past {
+        let most = old.len() as u64;
+        for start in 0..=most {
+            for end in (start..=most + past).map(Some).chain([None]) {
                 all_lists(column.few_new.len(), most_new, |kinds| {
                     let new: Vec<Reading> =
                         kinds.iter().map(|&kind| column.few_new[kind]).collect();
@@ -220,7 +222,8 @@ fn around(out: &mut String, options: &Options, random: &mut Random, column: &Col
                 let at = random.pick(&[0, 1, n / 2, n - 1, n]);
                 let new = slices(&(column.alternating)(new), column.served.slices);
                 let place = placed(column, column_of(column, &old), n + gone + new[0].len());
-                let mut edit = edit(place, (at, at + gone), new);
+                let range = (at as u64, Some((at + gone).min(n) as u64));
+                let mut edit = edit(place, range, new);
                 lend(&column.served, &mut edit, 0, 0, random);
                 record(out, &column.served, edit);
             }
@@ -234,7 +237,8 @@ fn far(out: &mut String, random: &mut Random) {
         let column = column_of(&BOOLEAN, &(BOOLEAN.alternating)(old));
         let kept = old.min(new);
         let new = slices(&(BOOLEAN.alternating)(new)[kept..], 1);
-        let mut edit = edit(placed(&BOOLEAN, column, 2), (kept, old), new);
+        let range = (kept as u64, Some(old as u64));
+        let mut edit = edit(placed(&BOOLEAN, column, 2), range, new);
         lend(&BOOLEAN.served, &mut edit, 0, 0, random);
         record(out, &BOOLEAN.served, edit);
     }
@@ -289,21 +293,22 @@ fn chance_new(column: &Column, random: &mut Random) -> Slices {
     given(&list, column.served.slices, random)
 }
 
-/// A range within a list of so many readings, or past its end.
-fn chance_range(length: u64, random: &mut Random) -> (u64, u64) {
+/// A range within a list of so many readings, to its end or past it.
+fn chance_range(length: u64, random: &mut Random) -> (u64, Option<u64>) {
     let start = match random.below(5) {
         0 => 0,
         1 => length,
         _ => random.below(length + 1),
     };
-    let end = match random.below(8) {
+    let end = match random.below(10) {
         0 => start,
         1 => length,
         2 => length + 1 + random.below(4),
         3 => u64::MAX,
+        4 | 5 => return (start, None),
         _ => start + random.below(length - start + 1),
     };
-    (start, end.max(start))
+    (start, Some(end.max(start)))
 }
 
 /// One fault of the call.
@@ -313,10 +318,10 @@ fn spoil(column: &Column, edit: &mut Edit, length: u64, random: &mut Random) {
         1 => edit.position = random.wide(),
         // another column, of which the call may not serve the type
         2 => edit.position = random.below(3),
-        3 => edit.end = edit.start.saturating_sub(1 + random.below(2)),
+        3 => edit.end = Some(edit.start.saturating_sub(1 + random.below(2))),
         4 => {
             edit.start = length + 1 + random.below(2);
-            edit.end = edit.end.max(edit.start);
+            edit.end = edit.end.map(|end| end.max(edit.start));
         }
         5 => {
             let bytes = edit.new.last_mut().unwrap();
@@ -342,11 +347,7 @@ fn chance(out: &mut String, column: &Column, random: &mut Random) {
     };
     let (start, end) = chance_range(length, random);
     let place = chance_block(column, bytes, random);
-    let mut edit = edit(
-        place,
-        (start as usize, end as usize),
-        chance_new(column, random),
-    );
+    let mut edit = edit(place, (start, end), chance_new(column, random));
     if random.below(16) == 0 {
         damage(&mut edit.block, random);
     }

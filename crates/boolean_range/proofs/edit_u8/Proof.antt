@@ -11,8 +11,8 @@ load-u8-requires c κs =
     let r = c .before .before .before .before .before .pre .0 in
     (omega (arith, r .located .at-is, r .located .till-is), r .located .ends)
 
-least-requires : tie.Need-least-requires
-least-requires c κs = search needs
+end-in-requires : tie.Need-end-in-requires
+end-in-requires c κs = search needs
 
 splice-u8-requires : tie.Need-splice-u8-requires
 splice-u8-requires c κs = search needs
@@ -21,7 +21,7 @@ finish-u8-requires : tie.Need-finish-u8-requires
 finish-u8-requires c κs =
     let a = c .before .before .before .before .before .before .before .before .before .before .before .before .before .before .before .args in
     let r = c .before .before .before .before .before .before .before .before .before .before .before .before .before .before .before .pre .0 in
-    let g = boolean-good (now (a .new)) (now (a .values)) r (c .before .before .before .before .before .before .before .before .before .before .before .before .before .before .before .pre .1) (c .before .before .before .before .before .before .before .before .before .load-u8 .ensures) (c .before .before .before .before .before .before .before .before .before .load-u8 .kept .1 .1 .1 .0) (c .before .before .before .before .before .least .ensures) (c .before .before .before .before .splice-u8 .ensures .1) in
+    let g = boolean-good (now (a .new)) (now (a .values)) r (c .before .before .before .before .before .before .before .before .before .before .before .before .before .before .before .pre .1) (c .before .before .before .before .before .before .before .before .before .load-u8 .ensures) (c .before .before .before .before .before .before .before .before .before .load-u8 .kept .1 .1 .1 .0) (c .before .before .before .before .before .end-in .ensures) (c .before .before .before .before .splice-u8 .ensures .1) in
     (r .located .row, (omega (arith, r .new-fits, c .before .before .before .before .before .before .before .before .before .load-u8 .kept, c .before .before .before .before .splice-u8 .kept), g))
 
 same-length : tie.Need-same-length
@@ -33,7 +33,7 @@ same-length-2 c = search needs
 returns : tie.Need-returns
 returns c =
     let a = c .before .before .before .before .before .before .before .before .before .before .before .before .before .before .before .before .before .before .args in
-    boolean-done (now (a .new)) (now (a .values)) (c .before .before .before .before .before .before .before .before .before .before .before .before .before .before .before .before .before .before .pre .0) (c .before .before .before .before .before .before .before .before .before .before .before .before .before .before .before .before .before .before .pre .1) (c .before .before .before .before .before .before .before .before .before .before .before .before .load-u8 .ensures) (c .before .before .before .before .before .before .before .before .before .before .before .before .load-u8 .kept .1 .1 .1 .0) (c .before .before .before .before .before .before .before .before .least .ensures) (c .before .before .before .before .before .before .before .splice-u8 .ensures .1)
+    boolean-done (now (a .new)) (now (a .values)) (c .before .before .before .before .before .before .before .before .before .before .before .before .before .before .before .before .before .before .pre .0) (c .before .before .before .before .before .before .before .before .before .before .before .before .before .before .before .before .before .before .pre .1) (c .before .before .before .before .before .before .before .before .before .before .before .before .load-u8 .ensures) (c .before .before .before .before .before .before .before .before .before .before .before .before .load-u8 .kept .1 .1 .1 .0) (c .before .before .before .before .before .before .before .before .end-in .ensures) (c .before .before .before .before .before .before .before .splice-u8 .ensures .1)
     (c .before .before .finish-u8 .ensures)
 
 pub edit-u8-spec : {M : Type 1} → statement M
@@ -41,7 +41,7 @@ edit-u8-spec =
     tie.close
     (tie.spec
     load-u8-requires
-    least-requires
+    end-in-requires
     splice-u8-requires
     finish-u8-requires
     same-length

@@ -16,21 +16,21 @@ load-u64-requires c κs =
     let r = c .before .before .before .before .before .before .before .before .pre .0 in
     (omega (arith, r .located .at-is, r .located .till-is), r .located .ends)
 
-least-requires : tie.Need-least-requires
-least-requires c κs = search needs
+end-in-requires : tie.Need-end-in-requires
+end-in-requires c κs = search needs
 
 replace-u64-requires : tie.Need-replace-u64-requires
 replace-u64-requires c κs =
     let a = c .before .before .before .before .before .before .before .before .before .before .before .before .before .before .before .before .args in
     optional-fits integer (trace u64E) (λ x. refl) 0 (now (a .new)) (now (a .flags)) (now (a .values)) (now (a .present)) (c .before .before .before .before .before .before .before .before .before .before .before .before .before .before .before .before .pre .0) (c .before .before .before .before .before .before .before .before .before .before .before .before .before .before .before .before .pre .1)
-    (c .before .before .before .before .before .before .before .load-u64 .ensures) (c .least .ensures) (c .before .before .before .before .before .before .before .load-u64 .kept .1 .1 .1 .0) (c .before .before .before .before .before .before .before .load-u64 .kept .1 .1 .1 .1 .0)
+    (c .before .before .before .before .before .before .before .load-u64 .ensures) (c .end-in .ensures) (c .before .before .before .before .before .before .before .load-u64 .kept .1 .1 .1 .0) (c .before .before .before .before .before .before .before .load-u64 .kept .1 .1 .1 .1 .0)
 
 finish-u64-requires : tie.Need-finish-u64-requires
 finish-u64-requires c κs =
     let a = c .before .before .before .before .before .before .before .before .before .before .before .before .before .before .before .before .before .before .before .before .before .before .before .before .args in
     let r = c .before .before .before .before .before .before .before .before .before .before .before .before .before .before .before .before .before .before .before .before .before .before .before .before .pre .0 in
     let g = optional-good integer (trace u64E) (λ x. refl) 0 (now (a .new)) (now (a .flags)) (now (a .values)) (now (a .present)) r (c .before .before .before .before .before .before .before .before .before .before .before .before .before .before .before .before .before .before .before .before .before .before .before .before .pre .1)
-    (c .before .before .before .before .before .before .before .before .before .before .before .before .before .before .before .load-u64 .ensures) (c .before .before .before .before .before .before .before .before .least .ensures) (c .before .before .before .before .before .before .before .replace-u64 .ensures) in
+    (c .before .before .before .before .before .before .before .before .before .before .before .before .before .before .before .load-u64 .ensures) (c .before .before .before .before .before .before .before .before .end-in .ensures) (c .before .before .before .before .before .before .before .replace-u64 .ensures) in
     (r .located .row, ((omega (arith, r .new-fits, c .before .before .before .before .before .before .before .before .before .before .before .before .before .before .before .load-u64 .kept, c .before .before .before .before .before .before .before .replace-u64 .kept), omega (arith, r .new-fits, given-good _ _ _ (now (a .flags)) (c .before .before .before .before .before .before .before .before .before .before .before .before .before .before .before .before .before .before .before .before .before .before .before .before .pre .1) .even, c .before .before .before .before .before .before .before .before .before .before .before .before .before .before .before .load-u64 .kept, c .before .before .before .before .before .before .before .replace-u64 .kept)), g))
 
 same-length : tie.Need-same-length
@@ -46,14 +46,14 @@ returns : tie.Need-returns
 returns c =
     let a = c .before .before .before .before .before .before .before .before .before .before .before .before .before .before .before .before .before .before .before .before .before .before .before .before .before .before .before .args in
     optional-done integer (trace u64E) (λ x. refl) 0 (now (a .new)) (now (a .flags)) (now (a .values)) (now (a .present)) (c .before .before .before .before .before .before .before .before .before .before .before .before .before .before .before .before .before .before .before .before .before .before .before .before .before .before .before .pre .0) (c .before .before .before .before .before .before .before .before .before .before .before .before .before .before .before .before .before .before .before .before .before .before .before .before .before .before .before .pre .1)
-    (c .before .before .before .before .before .before .before .before .before .before .before .before .before .before .before .before .before .before .load-u64 .ensures) (c .before .before .before .before .before .before .before .before .before .before .before .least .ensures) (c .before .before .before .before .before .before .before .before .before .before .replace-u64 .ensures) (c .before .before .finish-u64 .ensures)
+    (c .before .before .before .before .before .before .before .before .before .before .before .before .before .before .before .before .before .before .load-u64 .ensures) (c .before .before .before .before .before .before .before .before .before .before .before .end-in .ensures) (c .before .before .before .before .before .before .before .before .before .before .replace-u64 .ensures) (c .before .before .finish-u64 .ensures)
 
 pub edit-u64-spec : {M : Type 1} → statement M
 edit-u64-spec =
     tie.close
     (tie.spec
     load-u64-requires
-    least-requires
+    end-in-requires
     replace-u64-requires
     finish-u64-requires
     same-length

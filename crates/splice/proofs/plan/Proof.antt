@@ -25,8 +25,9 @@ enum-told c = search needs
 
 plan-column-requires : tie.Need-plan-column-requires
 plan-column-requires c κs =
-    let l = row-found (sym (c .before .before .before .before .at .given .1) ∙ c .before .before .before .before .before .before .row-at .ensures) in
-    (omega (arith, l .at-is, l .till-is), l .ends, l .ordered)
+    let a = c .before .before .before .before .before .before .before .before .before .args in
+    let f = row-found (a .start) (a .end) (sym (c .before .before .before .before .at .given .1) ∙ c .before .before .before .before .before .before .row-at .ensures) in
+    (omega (arith, f .0 .at-is, f .0 .till-is), f .0 .ends, f .1)
 
 enum-known-n : tie.Need-enum-known-n
 enum-known-n c = search needs

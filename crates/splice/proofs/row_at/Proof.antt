@@ -42,47 +42,50 @@ returns-3 c =
     let g = open-good (now (a .block)) (c .before .before .before .before .before .before .before .read-table .ensures) (c .before .before .before .before .before .if1 .left) in
     row-17 (a .low) (a .high) (now (a .block)) (a .position) (a .start) (a .end) g (c .before .before .before .if2 .left) (sym (c .before .has-type .ensures) ∙ not-true _ (c .if3 .taken))
 
+is-below-requires : tie.Need-is-below-requires
+is-below-requires c κs = search needs
+
 returns-4 : tie.Need-returns-4
 returns-4 c =
-    let a = c .before .before .before .before .before .before .before .before .before .before .args in
-    let g = open-good (now (a .block)) (c .before .before .before .before .before .before .before .before .read-table .ensures) (c .before .before .before .before .before .before .if1 .left) in
-    row-18 (a .low) (a .high) (now (a .block)) (a .position) (a .start) (a .end) g (c .before .before .before .before .if2 .left) (sym (c .before .before .has-type .ensures) ∙ not-false _ (c .before .if3 .left)) (c .if4 .taken)
+    let a = c .before .before .before .before .before .before .before .before .before .before .before .args in
+    let g = open-good (now (a .block)) (c .before .before .before .before .before .before .before .before .before .read-table .ensures) (c .before .before .before .before .before .before .before .if1 .left) in
+    row-18 (a .low) (a .high) (now (a .block)) (a .position) (a .start) (a .end) g (c .before .before .before .before .before .if2 .left) (sym (c .before .before .before .has-type .ensures) ∙ not-false _ (c .before .before .if3 .left)) (sym (c .before .is-below .ensures) ∙ c .if4 .taken)
 
 mul-at : tie.Need-mul-at
 mul-at c =
-    let g = open-good (now (c .before .before .before .before .before .before .before .before .before .before .args .block)) (c .before .before .before .before .before .before .before .before .read-table .ensures) (c .before .before .before .before .before .before .if1 .left) in
-    omega (arith, g .small, c .before .before .before .before .if2 .left)
+    let g = open-good (now (c .before .before .before .before .before .before .before .before .before .before .before .args .block)) (c .before .before .before .before .before .before .before .before .before .read-table .ensures) (c .before .before .before .before .before .before .before .if1 .left) in
+    omega (arith, g .small, c .before .before .before .before .before .if2 .left)
 
 element-copy-out-at : tie.Need-element-copy-out-at
 element-copy-out-at c =
-    let g = open-good (now (c .before .before .before .before .before .before .before .before .before .before .args .block)) (c .before .before .before .before .before .before .before .before .read-table .ensures) (c .before .before .before .before .before .before .if1 .left) in
-    omega (arith, g .small, c .before .before .before .before .if2 .left)
+    let g = open-good (now (c .before .before .before .before .before .before .before .before .before .before .before .args .block)) (c .before .before .before .before .before .before .before .before .before .read-table .ensures) (c .before .before .before .before .before .before .before .if1 .left) in
+    omega (arith, g .small, c .before .before .before .before .before .if2 .left)
 
 add-at : tie.Need-add-at
 add-at c =
-    let g = open-good (now (c .before .before .before .before .before .before .before .before .before .before .before .before .args .block)) (c .before .before .before .before .before .before .before .before .before .before .read-table .ensures) (c .before .before .before .before .before .before .before .before .if1 .left) in
-    omega (arith, column-in g (c .before .before .before .before .before .before .if2 .left), c .before .before .before .before .before .before .before .before .before .before .before .before .good)
-
-mul-t11 : tie.Need-mul-t11
-mul-t11 c =
-    let g = open-good (now (c .before .before .before .before .before .before .before .before .before .before .before .before .args .block)) (c .before .before .before .before .before .before .before .before .before .before .read-table .ensures) (c .before .before .before .before .before .before .before .before .if1 .left) in
-    omega (arith, g .small, c .before .before .before .before .before .before .if2 .left)
-
-element-copy-out-t18 : tie.Need-element-copy-out-t18
-element-copy-out-t18 c =
-    let g = open-good (now (c .before .before .before .before .before .before .before .before .before .before .before .before .args .block)) (c .before .before .before .before .before .before .before .before .before .before .read-table .ensures) (c .before .before .before .before .before .before .before .before .if1 .left) in
-    omega (arith, g .small, c .before .before .before .before .before .before .if2 .left)
-
-add-t22 : tie.Need-add-t22
-add-t22 c =
     let g = open-good (now (c .before .before .before .before .before .before .before .before .before .before .before .before .before .args .block)) (c .before .before .before .before .before .before .before .before .before .before .before .read-table .ensures) (c .before .before .before .before .before .before .before .before .before .if1 .left) in
     omega (arith, column-in g (c .before .before .before .before .before .before .before .if2 .left), c .before .before .before .before .before .before .before .before .before .before .before .before .before .good)
 
+mul-t11 : tie.Need-mul-t11
+mul-t11 c =
+    let g = open-good (now (c .before .before .before .before .before .before .before .before .before .before .before .before .before .args .block)) (c .before .before .before .before .before .before .before .before .before .before .before .read-table .ensures) (c .before .before .before .before .before .before .before .before .before .if1 .left) in
+    omega (arith, g .small, c .before .before .before .before .before .before .before .if2 .left)
+
+element-copy-out-t19 : tie.Need-element-copy-out-t19
+element-copy-out-t19 c =
+    let g = open-good (now (c .before .before .before .before .before .before .before .before .before .before .before .before .before .args .block)) (c .before .before .before .before .before .before .before .before .before .before .before .read-table .ensures) (c .before .before .before .before .before .before .before .before .before .if1 .left) in
+    omega (arith, g .small, c .before .before .before .before .before .before .before .if2 .left)
+
+add-t23 : tie.Need-add-t23
+add-t23 c =
+    let g = open-good (now (c .before .before .before .before .before .before .before .before .before .before .before .before .before .before .args .block)) (c .before .before .before .before .before .before .before .before .before .before .before .before .read-table .ensures) (c .before .before .before .before .before .before .before .before .before .before .if1 .left) in
+    omega (arith, column-in g (c .before .before .before .before .before .before .before .before .if2 .left), c .before .before .before .before .before .before .before .before .before .before .before .before .before .before .good)
+
 returns-5 : tie.Need-returns-5
 returns-5 c =
-    let a = c .before .before .before .before .before .before .before .before .before .before .before .before .before .args in
-    let g = open-good (now (a .block)) (c .before .before .before .before .before .before .before .before .before .before .before .read-table .ensures) (c .before .before .before .before .before .before .before .before .before .if1 .left) in
-    row-given (a .low) (a .high) (now (a .block)) (a .position) (a .start) (a .end) g (c .before .before .before .before .before .before .before .if2 .left) (sym (c .before .before .before .before .before .has-type .ensures) ∙ not-false _ (c .before .before .before .before .if3 .left)) (c .before .before .before .if4 .left)
+    let a = c .before .before .before .before .before .before .before .before .before .before .before .before .before .before .args in
+    let g = open-good (now (a .block)) (c .before .before .before .before .before .before .before .before .before .before .before .before .read-table .ensures) (c .before .before .before .before .before .before .before .before .before .before .if1 .left) in
+    row-given (a .low) (a .high) (now (a .block)) (a .position) (a .start) (a .end) g (c .before .before .before .before .before .before .before .before .if2 .left) (sym (c .before .before .before .before .before .before .has-type .ensures) ∙ not-false _ (c .before .before .before .before .before .if3 .left)) (sym (c .before .before .before .before .is-below .ensures) ∙ c .before .before .before .if4 .left)
 
 pub row-at-spec : {M : Type 1} → statement M
 row-at-spec =
@@ -95,11 +98,12 @@ row-at-spec =
     element-copy-out-has-type
     has-type-requires
     returns-3
+    is-below-requires
     returns-4
     mul-at
     element-copy-out-at
     add-at
     mul-t11
-    element-copy-out-t18
-    add-t22
+    element-copy-out-t19
+    add-t23
     returns-5)

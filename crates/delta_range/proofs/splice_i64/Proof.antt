@@ -1,4 +1,4 @@
--- `delta_range::splice_delta` meets its contract: refused by its plan, or ready. Assumes nothing.
+-- `delta_range::splice_i64` meets its contract: refused by its plan, or ready. Assumes nothing.
 use lib.IntN.{pos}
 use mathlib.Core.Path.{_∙_, sym}
 use denote.Ref.{now}
@@ -6,8 +6,8 @@ use Rattle.splice.specs.Kinds.{delta}
 use Rattle.splice.proofs.Counting.{delta-counts}
 use Rattle.splice.proofs.OptionalEdits.{optional-stopped, optional-ready}
 use borrow.Author.Needs.{needs}
-use Rattle.delta_range.proofs.splice_delta.Statement.{statement}
-use Rattle.delta_range.proofs.splice_delta.Tie as tie
+use Rattle.delta_range.proofs.splice_i64.Statement.{statement}
+use Rattle.delta_range.proofs.splice_i64.Tie as tie
 
 plan-requires : tie.Need-plan-requires
 plan-requires c κs = search needs
@@ -45,8 +45,8 @@ returns-2 c =
     optional-stopped delta (pos 0) (now (a .block)) (a .position) (a .start) (a .end) (now (a .new)) (now (a .flags)) (now (a .values)) (now (a .present)) (now (a .out))
     delta-counts (sym (c .before .before .n .given .1) ∙ c .before .before .before .before .plan .ensures) (c .refused .ensures)
 
-pub splice-delta-spec : {M : Type 1} → statement M
-splice-delta-spec =
+pub splice-i64-spec : {M : Type 1} → statement M
+splice-i64-spec =
     tie.close
     (tie.spec
     plan-requires

@@ -1,12 +1,12 @@
--- `rle_range::splice_integer` meets its contract: refused by its plan, or ready. Assumes nothing.
+-- `rle_range::splice_u64` meets its contract: refused by its plan, or ready. Assumes nothing.
 use mathlib.Core.Path.{_∙_, sym}
 use denote.Ref.{now}
 use Rattle.splice.specs.Kinds.{integer}
 use Rattle.splice.proofs.Counting.{integer-counts}
 use Rattle.splice.proofs.OptionalEdits.{optional-stopped, optional-ready}
 use borrow.Author.Needs.{needs}
-use Rattle.rle_range.proofs.splice_integer.Statement.{statement}
-use Rattle.rle_range.proofs.splice_integer.Tie as tie
+use Rattle.rle_range.proofs.splice_u64.Statement.{statement}
+use Rattle.rle_range.proofs.splice_u64.Tie as tie
 
 plan-requires : tie.Need-plan-requires
 plan-requires c κs = search needs
@@ -44,8 +44,8 @@ returns-2 c =
     optional-stopped integer 0 (now (a .block)) (a .position) (a .start) (a .end) (now (a .new)) (now (a .flags)) (now (a .values)) (now (a .present)) (now (a .out))
     integer-counts (sym (c .before .before .n .given .1) ∙ c .before .before .before .before .plan .ensures) (c .refused .ensures)
 
-pub splice-integer-spec : {M : Type 1} → statement M
-splice-integer-spec =
+pub splice-u64-spec : {M : Type 1} → statement M
+splice-u64-spec =
     tie.close
     (tie.spec
     plan-requires

@@ -1,9 +1,9 @@
--- `boolean_range::splice_boolean` meets its contract: refused by its plan, or ready. Assumes nothing.
+-- `boolean_range::splice_u8` meets its contract: refused by its plan, or ready. Assumes nothing.
 use denote.Ref.{now}
 use Rattle.splice.proofs.BooleanEdits.{boolean-stopped, boolean-ready}
 use borrow.Author.Needs.{needs}
-use Rattle.boolean_range.proofs.splice_boolean.Statement.{statement}
-use Rattle.boolean_range.proofs.splice_boolean.Tie as tie
+use Rattle.boolean_range.proofs.splice_u8.Statement.{statement}
+use Rattle.boolean_range.proofs.splice_u8.Tie as tie
 
 plan-requires : tie.Need-plan-requires
 plan-requires c κs = search needs
@@ -36,8 +36,8 @@ returns-2 c =
     let a = c .before .before .before .before .before .before .before .before .before .args in
     boolean-stopped (now (a .block)) (a .position) (a .start) (a .end) (now (a .new)) (now (a .values)) (now (a .out)) (c .before .before .before .before .plan .ensures) (c .before .before .n .given .1) (c .refused .ensures)
 
-pub splice-boolean-spec : {M : Type 1} → statement M
-splice-boolean-spec =
+pub splice-u8-spec : {M : Type 1} → statement M
+splice-u8-spec =
     tie.close
     (tie.spec
     plan-requires
