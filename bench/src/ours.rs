@@ -1,50 +1,33 @@
 //! The proved library by its C boundary, as `bindings/rust` declares it, with buffers lent by the caller.
 
-use grundavok::raw::*;
+use grundavok::raw::{Number, Opened};
+use grundavok::raw_call;
 
 pub fn leb128_u64(s: &[u8], at: usize) -> Number<u64> {
-    unsafe { grundavok_leb128_u64(s.as_ptr(), s.len(), at) }
+    raw_call!(grundavok_leb128_u64, [s], (at), [], [])
 }
 
 pub fn leb128_i64(s: &[u8], at: usize) -> Number<i64> {
-    unsafe { grundavok_leb128_i64(s.as_ptr(), s.len(), at) }
+    raw_call!(grundavok_leb128_i64, [s], (at), [], [])
 }
 
 macro_rules! optional {
     ($decode:ident, $encode:ident, $splice:ident, $c_decode:ident, $c_encode:ident, $c_splice:ident, $t:ty) => {
         pub fn $decode(s: &[u8], v: &mut [$t], p: &mut [u8]) -> u64 {
-            let a = unsafe { $c_decode(s.as_ptr(), s.len(), v.as_mut_ptr(), v.len(), p.as_mut_ptr(), p.len()) };
+            let a = raw_call!($c_decode, [s], (), [], [v, p]);
             assert_eq!(a.number, 0);
             a.count
         }
 
         pub fn $encode(v: &[$t], p: &[u8], out: &mut [u8]) -> usize {
-            let a = unsafe { $c_encode(v.as_ptr(), v.len(), p.as_ptr(), p.len(), out.as_mut_ptr(), out.len()) };
+            let a = raw_call!($c_encode, [], (), [v, p], [out]);
             assert_eq!(a.number, 0);
             a.count as usize
         }
 
         #[allow(clippy::too_many_arguments)]
         pub fn $splice(s: &[u8], start: usize, end: usize, new: &[$t], f: &[u8], v: &mut [$t], p: &mut [u8], out: &mut [u8]) -> usize {
-            let a = unsafe {
-                $c_splice(
-                    s.as_ptr(),
-                    s.len(),
-                    0,
-                    start,
-                    end,
-                    new.as_ptr(),
-                    new.len(),
-                    f.as_ptr(),
-                    f.len(),
-                    v.as_mut_ptr(),
-                    v.len(),
-                    p.as_mut_ptr(),
-                    p.len(),
-                    out.as_mut_ptr(),
-                    out.len(),
-                )
-            };
+            let a = raw_call!($c_splice, [s], (0, start, end), [new, f], [v, p, out]);
             assert_eq!(a.number, 0);
             a.len
         }
@@ -71,37 +54,23 @@ optional!(
 );
 
 pub fn boolean_decode(s: &[u8], v: &mut [u8]) -> u64 {
-    let a = unsafe { grundavok_boolean_decode(s.as_ptr(), s.len(), v.as_mut_ptr(), v.len()) };
+    let a = raw_call!(grundavok_boolean_decode, [s], (), [], [v]);
     assert_eq!(a.number, 0);
     a.count
 }
 
 pub fn boolean_encode(v: &[u8], out: &mut [u8]) -> usize {
-    let a = unsafe { grundavok_boolean_encode(v.as_ptr(), v.len(), out.as_mut_ptr(), out.len()) };
+    let a = raw_call!(grundavok_boolean_encode, [], (), [v], [out]);
     assert_eq!(a.number, 0);
     a.count as usize
 }
 
 pub fn splice_boolean(s: &[u8], start: usize, end: usize, new: &[u8], v: &mut [u8], out: &mut [u8]) -> usize {
-    let a = unsafe {
-        grundavok_splice_boolean(
-            s.as_ptr(),
-            s.len(),
-            0,
-            start,
-            end,
-            new.as_ptr(),
-            new.len(),
-            v.as_mut_ptr(),
-            v.len(),
-            out.as_mut_ptr(),
-            out.len(),
-        )
-    };
+    let a = raw_call!(grundavok_splice_boolean, [s], (0, start, end), [new], [v, out]);
     assert_eq!(a.number, 0);
     a.len
 }
 
 pub fn read_table(s: &[u8]) -> Opened {
-    unsafe { grundavok_read_table(s.as_ptr(), s.len()) }
+    raw_call!(grundavok_read_table, [s], (), [], [])
 }

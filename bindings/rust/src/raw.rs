@@ -222,3 +222,19 @@ extern "C" {
         out_len: usize,
     ) -> Spliced;
 }
+
+/// A call of the boundary: slices, numbers, slices that it reads and slices that it writes, each slice as its pointer and its length.
+#[doc(hidden)]
+#[macro_export]
+macro_rules! raw_call {
+    ($call:ident, [$($first:expr),*], ($($number:expr),*), [$($read:expr),*], [$($write:expr),*]) => {
+        unsafe {
+            $crate::raw::$call(
+                $($first.as_ptr(), $first.len(),)*
+                $($number,)*
+                $($read.as_ptr(), $read.len(),)*
+                $($write.as_mut_ptr(), $write.len(),)*
+            )
+        }
+    };
+}

@@ -4,7 +4,7 @@
 //! beyond the list; 5 for the result; 7 (delta alone).
 
 use crate::raw_column::{column, rows, Row};
-use crate::{boolean, delta, judged, lists, raw, rle, Refusal};
+use crate::{boolean, delta, judged, lists, raw, raw_call, rle, Refusal};
 
 /// The new block, its rows, and the column's new list.
 #[derive(Clone, Debug, PartialEq, Eq)]
@@ -52,24 +52,8 @@ macro_rules! optional_splice {
             let (old, len) = lengths(column(block, position).and_then($column::count), start, $till, new.len());
             let (new_values, new_present) = lists::apart(new);
             let (mut values, mut present) = (vec![0; old.max(len)], vec![0; old.max(len)]);
-            let edit = |out: &mut [u8], values: &mut [$element], present: &mut [u8]| unsafe {
-                raw::$call(
-                    block.as_ptr(),
-                    block.len(),
-                    position,
-                    start,
-                    $($end,)?
-                    new_values.as_ptr(),
-                    new_values.len(),
-                    new_present.as_ptr(),
-                    new_present.len(),
-                    values.as_mut_ptr(),
-                    values.len(),
-                    present.as_mut_ptr(),
-                    present.len(),
-                    out.as_mut_ptr(),
-                    out.len(),
-                )
+            let edit = |out: &mut [u8], values: &mut [$element], present: &mut [u8]| {
+                raw_call!($call, [block], (position, start $(, $end)?), [new_values, new_present], [values, present, out])
             };
             until_10(edit(&mut [], &mut values, &mut present))?;
             let size = $column::size(&values[..len], &present[..len])?;
@@ -91,21 +75,7 @@ macro_rules! boolean_splice {
             let (old, len) = lengths(column(block, position).and_then(boolean::count), start, $till, new.len());
             let new = lists::bytes(new);
             let mut values = vec![0; old.max(len)];
-            let edit = |out: &mut [u8], values: &mut [u8]| unsafe {
-                raw::$call(
-                    block.as_ptr(),
-                    block.len(),
-                    position,
-                    start,
-                    $($end,)?
-                    new.as_ptr(),
-                    new.len(),
-                    values.as_mut_ptr(),
-                    values.len(),
-                    out.as_mut_ptr(),
-                    out.len(),
-                )
-            };
+            let edit = |out: &mut [u8], values: &mut [u8]| raw_call!($call, [block], (position, start $(, $end)?), [new], [values, out]);
             until_10(edit(&mut [], &mut values))?;
             let size = boolean::size(&values[..len])?;
             let mut out = vec![0; block.len() + size + TABLE_GROWTH];

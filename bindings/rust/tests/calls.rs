@@ -108,7 +108,13 @@ mod calls {
             (flags.block.as_slice(), flags.list.as_slice()),
             (&[0x01, 0x14, 0x01, 0x03][..], &[false; 3][..])
         );
-        assert_eq!(splice::splice_delta_to_end(&DEPTHS, 0, 1, &[Some(81)]).unwrap().list, [Some(80), Some(81)]);
-        assert_eq!(splice::splice_boolean_to_end(&[0x01, 0x14, 0x03, 0x00, 0x01, 0x02], 0, 4, &[]), refused(18, 0));
+        assert_eq!(
+            splice::splice_delta_to_end(&DEPTHS, 0, 1, &[Some(81)]).unwrap().list,
+            [Some(80), Some(81)]
+        );
+        assert_eq!(
+            splice::splice_boolean_to_end(&[0x01, 0x14, 0x03, 0x00, 0x01, 0x02], 0, 4, &[]),
+            refused(18, 0)
+        );
     }
 }

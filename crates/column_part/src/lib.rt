@@ -27,7 +27,7 @@ fn no_part(number: u8, place: usize) -> Part
 }
 
 // The part of row i, in a block whose data begin at next.
-pub(crate) fn row_part(table: Table, next: usize, i: usize) -> Part
+fn row_part(table: Table, next: usize, i: usize) -> Part
     requires { ⌜ (i < table .rows) × (table .rows ≤ 64) × (startOf (take (table .rows) (table .lens)) next i < 2 ^ 64) × (getD (table .starts) i 0 ≡ sum (take i (take (table .rows) (table .lens)))) ⌝ }
     ensures { λ r. ⌜ r ≡ rowPart (take (table .rows) (table .lens)) next i ⌝ }
 {

@@ -1,6 +1,4 @@
 -- What each answer of the code stands for.
-use Prim.Native.Nat.{ℕ}
-use mathlib.Core.Option.{Option, none, some}
 use Rattle.leb128.specs.Answer.{done, refused}
 use Rattle.leb128.specs.Answer as leb
 use Rattle.encoding.specs.Head as spec

@@ -1,4 +1,4 @@
-// An edit of a block by the splice of its column's kind, with readings as `numbers` keeps them.
+// An edit of a block by the splice of its column's kind, with readings as `decimal` keeps them.
 use crate::kinds::Kind;
 use crate::load;
 use crate::rooms;
@@ -122,7 +122,7 @@ fn yes_no(block: &[u8], r: Range, new: &[u64], out: &mut [u8]) -> Edited {
     ))
 }
 
-// The block with the readings of a range replaced by new ones, as `numbers` keeps them.
+// The block with the readings of a range replaced by new ones, as `decimal` keeps them.
 pub fn apply(
     block: &[u8],
     r: Range,

@@ -1,13 +1,12 @@
-// A column's readings, of every kind as the numbers by which `numbers` keeps them.
+// A column's readings, of every kind as the numbers by which `decimal` keeps them.
 ghost use mathlib.Core.Path.{_≡_};
-ghost use Prim.Native.Nat.{_<_, _^_};
-ghost use lib.Signed.{mag};
 ghost use Rattle.delta_decoder.specs.Sofar.{sumOf};
 ghost use Rattle.tablet.specs.Kept.{keptOf};
 use crate::kinds::Kind;
 use crate::rooms;
 use decimal::HALF;
 use encoding::Answer;
+use leb128::magnitude;
 
 // How many readings a column has, or its first fault.
 pub fn count(part: &[u8], kind: Kind) -> Answer {
@@ -17,13 +16,6 @@ pub fn count(part: &[u8], kind: Kind) -> Answer {
         Kind::YesNo => boolean_decoder::count(part),
         Kind::Unserved => Answer::Refused(17, 0),
     }
-}
-
-// x where it is not negative, else -(x + 1).
-fn magnitude(x: i64) -> u64
-    ensures { λ r. ⌜ (r ≡ mag x) × (r < 2 ^ 63) ⌝ }
-{
-    if x < 0 { !x as u64 } else { x as u64 }
 }
 
 // A signed number as it is kept.
