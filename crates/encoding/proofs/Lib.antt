@@ -5,7 +5,7 @@ pub mod Elements
 pub mod Filling
 pub mod Lists
 pub mod Looking
-pub mod Pieces
+pub mod StretchParts
 pub mod Placing
 pub mod Presence
 pub mod Putting

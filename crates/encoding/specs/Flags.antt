@@ -15,7 +15,7 @@ unfoldable pub anyFlag : List ℕ → Bool
 anyFlag [] = false
 anyFlag (b ∷ p) = cond (eqb b 0) (anyFlag p) true
 
--- -n, the count before n values that stand singly
+-- -n, the count of a literal run of n values
 unfoldable pub minus : ℕ → ℤ
 minus zero = pos 0
 minus (suc n) = negsuc n
