@@ -43,7 +43,7 @@ column-is-part s position = go (parse s) refl
         at : take (getD lens position 0) (drop (startOf lens next position) s) ≡ getD (cut lens (drop next s)) position []
         at = sym (cut-at lens (drop next s) position ∙ ap (take (getD lens position 0)) (drop-drop (sum (take position lens)) next s))
 
-        row : (b : Bool) → ltb position (length specs) ≡ b → bytesOf s (cond b (rowPart lens next position) (noPart 16 0)) ≡ getD (cut lens (drop next s)) position []
+        row : (b : Bool) → ltb position (length specs) ≡ b → bytesOf s (cond b (rowPart specs lens next position) (noPart 16 0)) ≡ getD (cut lens (drop next s)) position []
         row true h = at
         row false h =
             let n : length (cut lens (drop next s)) ≤ position =

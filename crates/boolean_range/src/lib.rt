@@ -13,7 +13,9 @@ ghost use Rattle.splice.specs.Kinds.{boolean};
 ghost use Rattle.splice.specs.Ready.{HasRow, Ready, Good, Writable, putBehind, Finished};
 use block_frame::put_frame;
 use encoding::Answer;
+use splice::ColumnKind;
 use splice::End;
+use splice::Found;
 use splice::Planned;
 use splice::Spliced;
 
@@ -34,7 +36,13 @@ fn fill_u8(values: &[u8], out: &mut [u8], at: usize)
 }
 
 // The new block around a column of so many bytes.
-fn put_u8(block: &[u8], position: usize, size: usize, values: &[u8], out: &mut [u8]) -> Spliced
+fn put_block_u8(
+    block: &[u8],
+    position: usize,
+    size: usize,
+    values: &[u8],
+    out: &mut [u8],
+) -> Spliced
     requires { ⌜ HasRow (now block) position ⌝ }
     requires { ⌜ Good (length (now values)) (now values) ⌝ }
     requires { ⌜ size ≡ length (boolean .writes (now values)) ⌝ }
@@ -46,17 +54,17 @@ fn put_u8(block: &[u8], position: usize, size: usize, values: &[u8], out: &mut [
     }
     let at = frame.at;
     fill_u8(values, out, at);
-    splice::accepted(out, frame.len)
+    splice::block_answer(out, frame.len)
 }
 
 // 10, or the new block, for the list that stands in the slots.
-fn write_u8(block: &[u8], position: usize, values: &[u8], out: &mut [u8]) -> Spliced
+fn write_block_u8(block: &[u8], position: usize, values: &[u8], out: &mut [u8]) -> Spliced
     requires { ⌜ HasRow (now block) position ⌝ }
     requires { ⌜ Good (length (now values)) (now values) ⌝ }
     ensures { λ r. ⌜ Finished boolean (now (block .entry)) position (now (values .entry)) (now (out .entry)) (now (out .exit)) r ⌝ }
 {
     match boolean_encoder::encoded_len(values) {
-        Answer::Done(size) => put_u8(block, position, size as usize, values, out),
+        Answer::Done(size) => put_block_u8(block, position, size as usize, values, out),
         Answer::Refused(n, place) => splice::refused(n, place),
     }
 }
@@ -68,35 +76,33 @@ fn finish_u8(block: &[u8], position: usize, len: usize, values: &[u8], out: &mut
     requires { ⌜ Good (length (take len (now values))) (take len (now values)) ⌝ }
     ensures { λ r. ⌜ Finished boolean (now (block .entry)) position (take len (now (values .entry))) (now (out .entry)) (now (out .exit)) r ⌝ }
 {
-    write_u8(block, position, &values[..len], out)
+    write_block_u8(block, position, &values[..len], out)
 }
 
 // An edit that is ready.
 fn edit_u8(
     block: &[u8],
     position: usize,
-    at: usize,
-    till: usize,
-    old: usize,
-    len: usize,
+    found: Found,
     start: usize,
     end: End,
     new: &[u8],
     values: &mut [u8],
     out: &mut [u8],
 ) -> Spliced
-    requires { ⌜ Ready boolean (now block) position start end (length (now new)) (length (now values)) at till old len ⌝ }
+    requires { ⌜ Ready boolean (now block) position start end (length (now new)) (length (now values)) (found .at) (found .till) (found .old) (found .len) ⌝ }
     requires { ⌜ givenBoolean (now new) ≡ done 0 ⌝ }
     ensures { λ r. ⌜ BooleanSpliced boolean (now (block .entry)) position start end (now (new .entry))
         (now (values .entry)) (now (values .exit)) (now (out .entry)) (now (out .exit)) r ⌝ }
 {
-    load_u8(block, at, till, values);
+    load_u8(block, found.at, found.till, values);
+    let old = found.old;
     slots_u8::splice_u8(values, old, start, splice::end_in(end, old), new);
-    finish_u8(block, position, len, values, out)
+    finish_u8(block, position, found.len, values, out)
 }
 
-// Refused by its plan, or edited.
-fn splice_u8(
+// The readings of a range of the column at a position replaced by the new ones: from start up to an index, or to the end of the list.
+pub fn splice_boolean(
     block: &[u8],
     position: usize,
     start: usize,
@@ -111,8 +117,7 @@ fn splice_u8(
     match splice::plan(
         block,
         position,
-        splice::BOOLEAN,
-        splice::BOOLEAN,
+        ColumnKind::Boolean,
         start,
         end,
         new.len(),
@@ -120,50 +125,7 @@ fn splice_u8(
         values.len(),
         values.len(),
     ) {
-        Planned::Ready(at, till, old, len) => edit_u8(
-            block,
-            position,
-            at,
-            till,
-            old,
-            len,
-            start,
-            end,
-            new,
-            values,
-            out,
-        ),
+        Planned::Ready(found) => edit_u8(block, position, found, start, end, new, values, out),
         Planned::Refused(n, place) => splice::refused(n, place),
     }
-}
-
-// The values from start up to end of the column at a position replaced by the new ones.
-pub fn splice_boolean(
-    block: &[u8],
-    position: usize,
-    start: usize,
-    end: usize,
-    new: &[u8],
-    values: &mut [u8],
-    out: &mut [u8],
-) -> Spliced
-    ensures { λ r. ⌜ BooleanSpliced boolean (now (block .entry)) position start (End.At end) (now (new .entry))
-        (now (values .entry)) (now (values .exit)) (now (out .entry)) (now (out .exit)) r ⌝ }
-{
-    splice_u8(block, position, start, End::At(end), new, values, out)
-}
-
-// The values from start to the end of the list replaced by the new ones.
-pub fn splice_boolean_to_end(
-    block: &[u8],
-    position: usize,
-    start: usize,
-    new: &[u8],
-    values: &mut [u8],
-    out: &mut [u8],
-) -> Spliced
-    ensures { λ r. ⌜ BooleanSpliced boolean (now (block .entry)) position start End.OfList (now (new .entry))
-        (now (values .entry)) (now (values .exit)) (now (out .entry)) (now (out .exit)) r ⌝ }
-{
-    splice_u8(block, position, start, End::OfList, new, values, out)
 }

@@ -4,8 +4,8 @@ use Prim.Native.Nat.{ℕ}
 use lib.IntN.{ℤ, pos}
 use Rattle.leb128.specs.Got.{Got, got, bad}
 use Rattle.leb128.specs.Answer.{Answer, done, refused}
-use Rattle.column_specification.specs.declared.Packed.{Packed}
-use Rattle.column_specification.specs.declared.Packed.the-variants.{Spec, Refused}
+use Rattle.column_specification.specs.Specification.{Packing, made}
+use Rattle.column_specification.specs.Specification as packing
 use Rattle.raw_column.specs.declared.Table.{Table as RawTable}
 use Rattle.raw_column.specs.declared.Opened.{Opened as RawOpened}
 use Rattle.column_part.specs.declared.Part.{Part as RawPart}
@@ -38,9 +38,9 @@ abbrev pub counted : Answer → Counted
 counted (done n) = record { number = 0; place = 0; count = n }
 counted (refused r place) = record { number = r; place = place; count = 0 }
 
-abbrev pub specification : Packed → Specification
-specification (Spec s) = record { number = 0; place = 0; spec = s .0 }
-specification (Refused r place) = record { number = r; place = place; spec = 0 }
+abbrev pub specification : Packing → Specification
+specification (made spec) = record { number = 0; place = 0; spec = spec }
+specification (packing.refused r place) = record { number = r; place = place; spec = 0 }
 
 -- the library's structs, field by field
 abbrev pub tableAs : RawTable → Table

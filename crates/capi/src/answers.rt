@@ -3,6 +3,7 @@ ghost use mathlib.Core.Path.{_≡_};
 ghost use Rattle.leb128.specs.Answer.{done, refused};
 ghost use Rattle.leb128.specs.Cases.{u64Of, i64Of, u32Of};
 ghost use Rattle.leb128_writer.specs.Cases.{writtenOf};
+ghost use Rattle.column_specification.specs.Cases.{packingOf};
 ghost use Rattle.encoding.specs.Cases.{answerOf};
 ghost use Rattle.capi.specs.Cases.{numberU64, numberI64, numberU32, counted, specification, tableAs, openedAs, partAs, frameAs, splicedAs};
 use crate::Counted;
@@ -118,7 +119,7 @@ pub(crate) fn written(w: Written) -> Counted
 }
 
 pub(crate) fn packed(p: Packed) -> Specification
-    ensures { λ r. ⌜ r ≡ specification p ⌝ }
+    ensures { λ r. ⌜ r ≡ specification (packingOf p) ⌝ }
 {
     match p {
         Packed::Spec(s) => Specification {

@@ -31,7 +31,7 @@ pub extern "C" fn grundavok_splice_integer(
         block,
         position,
         start,
-        end,
+        End::At(end),
         new_values,
         new_present,
         values,
@@ -54,10 +54,11 @@ pub extern "C" fn grundavok_splice_integer_to_end(
     ensures { λ r. ⌜ ToldEdit (OptionalSpliced integer 0 (now (block .entry)) position start End.OfList (now («new_values» .entry)) (now («new_present» .entry))
         (now (values .entry)) (now (values .exit)) (now (present .entry)) (now (present .exit)) (now (out .entry)) (now (out .exit))) r ⌝ }
 {
-    answers::spliced(rle_range::splice_integer_to_end(
+    answers::spliced(rle_range::splice_integer(
         block,
         position,
         start,
+        End::OfList,
         new_values,
         new_present,
         values,
@@ -85,7 +86,7 @@ pub extern "C" fn grundavok_splice_delta(
         block,
         position,
         start,
-        end,
+        End::At(end),
         new_values,
         new_present,
         values,
@@ -108,10 +109,11 @@ pub extern "C" fn grundavok_splice_delta_to_end(
     ensures { λ r. ⌜ ToldEdit (OptionalSpliced delta (pos 0) (now (block .entry)) position start End.OfList (now («new_values» .entry)) (now («new_present» .entry))
         (now (values .entry)) (now (values .exit)) (now (present .entry)) (now (present .exit)) (now (out .entry)) (now (out .exit))) r ⌝ }
 {
-    answers::spliced(delta_range::splice_delta_to_end(
+    answers::spliced(delta_range::splice_delta(
         block,
         position,
         start,
+        End::OfList,
         new_values,
         new_present,
         values,
@@ -137,7 +139,7 @@ pub extern "C" fn grundavok_splice_boolean(
         block,
         position,
         start,
-        end,
+        End::At(end),
         new_values,
         values,
         out,
@@ -156,10 +158,11 @@ pub extern "C" fn grundavok_splice_boolean_to_end(
     ensures { λ r. ⌜ ToldEdit (BooleanSpliced boolean (now (block .entry)) position start End.OfList (now («new_values» .entry))
         (now (values .entry)) (now (values .exit)) (now (out .entry)) (now (out .exit))) r ⌝ }
 {
-    answers::spliced(boolean_range::splice_boolean_to_end(
+    answers::spliced(boolean_range::splice_boolean(
         block,
         position,
         start,
+        End::OfList,
         new_values,
         values,
         out,

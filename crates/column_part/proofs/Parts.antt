@@ -65,7 +65,7 @@ module _ (s : List ℕ) (position : ℕ) where
         let b : length (specsOf o) ≤ position = omega (arith, rows-long g) in
         rw (g .is, le-ltb position (length (specsOf o)) b)
 
-    pub part-at : position < o .table .rows → rowPart (lensOf o) (o .start) position ≡ partAt s position
+    pub part-at : position < o .table .rows → rowPart (specsOf o) (lensOf o) (o .start) position ≡ partAt s position
     unfolding partAt
     part-at h =
         let b : position < length (specsOf o) = omega (arith, rows-long g) in
@@ -84,7 +84,7 @@ module _ (s : List ℕ) (spec : ℕ) where
         let b : length (specsOf o) ≤ i = omega (arith, rows-long g) in
         rw (g .is, ← e, le-ltb i (length (specsOf o)) b)
 
-    pub spec-at : i < o .table .rows → rowPart (lensOf o) (o .start) i ≡ partFor s spec
+    pub spec-at : i < o .table .rows → rowPart (specsOf o) (lensOf o) (o .start) i ≡ partFor s spec
     unfolding partFor
     spec-at h =
         let b : i < length (specsOf o) = omega (arith, rows-long g) in

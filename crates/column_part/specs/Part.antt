@@ -14,13 +14,14 @@ abbrev pub startOf : List ℕ → ℕ → ℕ → ℕ
 startOf lens next position = next + sum (take position lens)
 
 abbrev pub noPart : ℕ → ℕ → Part
-noPart number place = record { number = number; place = place; start = 0; len = 0 }
+noPart number place = record { number = number; place = place; start = 0; len = 0; spec = 0 }
 
-abbrev pub rowPart : List ℕ → ℕ → ℕ → Part
-rowPart lens next i = record { number = 0; place = 0; start = startOf lens next i; len = getD lens i 0 }
+-- the part of row i, with its specification
+abbrev pub rowPart : List ℕ → List ℕ → ℕ → ℕ → Part
+rowPart specs lens next i = record { number = 0; place = 0; start = startOf lens next i; len = getD lens i 0; spec = getD specs i 0 }
 
 abbrev pub partIn : ℕ → Tab → Part
-partIn position (tab specs lens next) = cond (ltb position (length specs)) (rowPart lens next position) (noPart 16 0)
+partIn position (tab specs lens next) = cond (ltb position (length specs)) (rowPart specs lens next position) (noPart 16 0)
 partIn position (faulty number place) = noPart number place
 
 -- the first row with exactly that specification; the number of rows where there is none
@@ -29,7 +30,7 @@ rowOf spec [] = 0
 rowOf spec (x ∷ xs) = cond (eqb x spec) 0 (suc (rowOf spec xs))
 
 abbrev pub specPartIn : ℕ → Tab → Part
-specPartIn spec (tab specs lens next) = cond (ltb (rowOf spec specs) (length specs)) (rowPart lens next (rowOf spec specs)) (noPart 0 0)
+specPartIn spec (tab specs lens next) = cond (ltb (rowOf spec specs) (length specs)) (rowPart specs lens next (rowOf spec specs)) (noPart 0 0)
 specPartIn spec (faulty number place) = noPart number place
 
 unfoldable pub partAt : List ℕ → ℕ → Part

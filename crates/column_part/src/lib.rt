@@ -7,12 +7,13 @@ ghost use Rattle.column_part.specs.Part.{startOf, noPart, rowPart, rowOf
 use raw_column::Table;
 use raw_column::read_table;
 
-// Where a column lies in its block; or a refusal's number and place, and an empty part.
+// Where a column lies in its block, and its specification; or a refusal's number and place, and an empty part.
 pub struct Part {
     pub number: u8,
     pub place: usize,
     pub start: usize,
     pub len: usize,
+    pub spec: u32,
 }
 
 fn no_part(number: u8, place: usize) -> Part
@@ -23,19 +24,21 @@ fn no_part(number: u8, place: usize) -> Part
         place: place,
         start: 0,
         len: 0,
+        spec: 0,
     }
 }
 
 // The part of row i, in a block whose data begin at next.
 fn row_part(table: Table, next: usize, i: usize) -> Part
     requires { ⌜ (i < table .rows) × (table .rows ≤ 64) × (startOf (take (table .rows) (table .lens)) next i < 2 ^ 64) × (getD (table .starts) i 0 ≡ sum (take i (take (table .rows) (table .lens)))) ⌝ }
-    ensures { λ r. ⌜ r ≡ rowPart (take (table .rows) (table .lens)) next i ⌝ }
+    ensures { λ r. ⌜ r ≡ rowPart (take (table .rows) (table .specs)) (take (table .rows) (table .lens)) next i ⌝ }
 {
     Part {
         number: 0,
         place: 0,
         start: next + table.starts[i] as usize,
         len: table.lens[i] as usize,
+        spec: table.specs[i],
     }
 }
 

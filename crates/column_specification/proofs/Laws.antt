@@ -10,12 +10,10 @@ use lib.Bits.{bitAnd, and-block, and-mask}
 use lib.ListN.{getD}
 use borrow.Author.Tests.{eq-eqb, ne-eqb, lt-ltb, le-ltb}
 use Rattle.column_specification.specs.TypeNumber.{typeNumber}
-use Rattle.column_specification.specs.Specification.{packed, pack, idOf, typeOf, compressedOf}
+use Rattle.column_specification.specs.Specification.{made, refused, packed, pack, idOf, typeOf, compressedOf}
 use Rattle.column_specification.specs.Key.{key}
 use Rattle.column_specification.specs.declared.ColumnType.{ColumnType}
 use Rattle.column_specification.specs.declared.ColumnType.the-variants as T
-use Rattle.column_specification.specs.declared.ColumnSpec.{ColumnSpec}
-use Rattle.column_specification.specs.declared.Packed.the-variants.{Spec, Refused}
 
 -- ---- a type and its number
 
@@ -45,12 +43,11 @@ number-only s t e = sym (at-number s .1) ∙ (ap (λ (n : ℕ). getD types n T.G
 -- ---- packing
 
 -- an id below 2^28 is packed, and no other
-pub made : (id number : ℕ) (compressed : Bool) {spec : ℕ} → id < 2 ^ 28 → spec ≡ packed id number compressed
-    → Spec (record { 0 = spec }) ≡ pack id number compressed
-made id number compressed fits e = rw (lt-ltb _ _ fits, e)
+pub pack-made : (id number : ℕ) (compressed : Bool) {spec : ℕ} → id < 2 ^ 28 → spec ≡ packed id number compressed → made spec ≡ pack id number compressed
+pack-made id number compressed fits e = rw (lt-ltb _ _ fits, e)
 
-pub refused : (id number : ℕ) (compressed : Bool) → 2 ^ 28 ≤ id → Refused 19 0 ≡ pack id number compressed
-refused id number compressed large = rw (le-ltb _ _ large)
+pub pack-refused : (id number : ℕ) (compressed : Bool) → 2 ^ 28 ≤ id → refused 19 0 ≡ pack id number compressed
+pack-refused id number compressed large = rw (le-ltb _ _ large)
 
 -- ---- unpacking after packing: id, type and compressed bit come back
 
@@ -71,15 +68,15 @@ unpacked id number false small = record {
   same-bit = ne-eqb (packed id number false / 8 % 2) 1 (λ e. omega arith);
 }
 
-pub unpack-after-pack : (id number : ℕ) (compressed : Bool) (s : ColumnSpec) → number < 8
-    → pack id number compressed ≡ Spec s → Unpacked id number compressed (s .0)
-unpack-after-pack id number compressed s small e =
+pub unpack-after-pack : (id number : ℕ) (compressed : Bool) (spec : ℕ) → number < 8
+    → pack id number compressed ≡ made spec → Unpacked id number compressed spec
+unpack-after-pack id number compressed spec small e =
     elim (decLt id (2 ^ 28)) [
       | yes fits ↦
-          let same : record { 0 = packed id number compressed } ≡ s = cc (made id number compressed fits refl) in
-          subst (λ (x : ColumnSpec). Unpacked id number compressed (x .0)) same (unpacked id number compressed small)
+          let same : packed id number compressed ≡ spec = cc (pack-made id number compressed fits refl) in
+          subst (Unpacked id number compressed) same (unpacked id number compressed small)
       | no large ↦
-          let never : _≡_ {A = ℕ} 0 1 = cc (refused id number compressed (omega arith)) in
+          let never : _≡_ {A = ℕ} 0 1 = cc (pack-refused id number compressed (omega arith)) in
           absurd (omega arith)
     ]
 
@@ -98,8 +95,8 @@ packed-again spec =
 pub id-below : (spec : ℕ) → spec < 2 ^ 32 → idOf spec < 2 ^ 28
 id-below spec h = omega arith
 
-pub pack-after-unpack : (s : ColumnSpec) → s .0 < 2 ^ 32 → pack (idOf (s .0)) (typeOf (s .0)) (compressedOf (s .0)) ≡ Spec s
-pack-after-unpack s fits = sym (made (idOf (s .0)) (typeOf (s .0)) (compressedOf (s .0)) (id-below (s .0) fits) (packed-again (s .0)))
+pub pack-after-unpack : (spec : ℕ) → spec < 2 ^ 32 → pack (idOf spec) (typeOf spec) (compressedOf spec) ≡ made spec
+pack-after-unpack spec fits = sym (pack-made (idOf spec) (typeOf spec) (compressedOf spec) (id-below spec fits) (packed-again spec))
 
 -- ---- the sorting key
 

@@ -1,3 +1,4 @@
+pub mod Cases
 pub mod TypeNumber
 pub mod Specification
 pub mod Key

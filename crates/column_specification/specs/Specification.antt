@@ -2,16 +2,19 @@
 use Prim.Native.Nat.{ℕ, _+_, _*_, _/_, _%_, _^_}
 use mathlib.Core.Bool.{Bool, cond}
 use lib.Dec.{ltb, eqb}
-use Rattle.column_specification.specs.declared.Packed.{Packed}
-use Rattle.column_specification.specs.declared.Packed.the-variants.{Spec, Refused}
 
 -- 01, "Specifications": id times 16, plus 8 for the compressed bit, plus type
 abbrev pub packed : ℕ → ℕ → Bool → ℕ
 packed id number compressed = id * 16 + cond compressed 8 0 + number
 
+-- what packing gives: a specification, or a refusal's number and place
+pub data Packing : Type 0 where
+  made : ℕ → Packing
+  refused : ℕ → ℕ → Packing
+
 -- 01, "Specifications": ids go to 2^28-1; "Refusal numbers": 19, a column id of 2^28 or more, place 0
-abbrev pub pack : ℕ → ℕ → Bool → Packed
-pack id number compressed = cond (ltb id (2 ^ 28)) (Spec (record { 0 = packed id number compressed })) (Refused 19 0)
+abbrev pub pack : ℕ → ℕ → Bool → Packing
+pack id number compressed = cond (ltb id (2 ^ 28)) (made (packed id number compressed)) (refused 19 0)
 
 -- 01, "Specifications", read backwards: the id, the type's number (the low three bits) and the compressed bit (bit 3)
 abbrev pub idOf : ℕ → ℕ

@@ -1,5 +1,6 @@
 // Column specifications: one u32 holds a column's id, whether the column is compressed, and the column's type.
 ghost use mathlib.Core.Path.{_≡_};
+ghost use Rattle.column_specification.specs.Cases.{packingOf};
 ghost use Rattle.column_specification.specs.TypeNumber.{typeNumber};
 ghost use Rattle.column_specification.specs.Specification.{pack, idOf, typeOf, compressedOf};
 ghost use Rattle.column_specification.specs.Key.{key};
@@ -59,7 +60,7 @@ impl ColumnType {
 impl ColumnSpec {
     // Every id below 2^28 is kept whole; the Rust loses ids from 16 up where the compressed bit is not set.
     pub fn new(id: u32, col_type: ColumnType, deflate: bool) -> Packed
-        ensures { λ r. ⌜ r ≡ pack id (typeNumber «col_type») deflate ⌝ }
+        ensures { λ r. ⌜ packingOf r ≡ pack id (typeNumber «col_type») deflate ⌝ }
     {
         if 268435456 <= id {
             return Packed::Refused(19, 0);

@@ -18,7 +18,9 @@ ghost use Rattle.splice.specs.Kinds.{delta};
 ghost use Rattle.splice.specs.Ready.{HasRow, Ready, Fits, Replaced, Good, Writable, putBehind, Finished};
 use block_frame::put_frame;
 use encoding::Answer;
+use splice::ColumnKind;
 use splice::End;
+use splice::Found;
 use splice::Planned;
 use splice::Spliced;
 
@@ -33,13 +35,13 @@ fn held_i64(v: i64, flag: u8) -> i64
 }
 
 // The new readings in the slots from `at` on.
-fn put_new_i64(values: &mut [i64], at: usize, new: &[i64], flags: &[u8])
-    requires { ⌜ (at + length (now new) ≤ length (now values)) × (length (now flags) ≡ length (now new)) ⌝ }
-    ensures { λ _. ⌜ now (values .exit) ≡ paste (now (values .entry)) at (map (slotIn (pos 0)) (slotList (now (new .entry)) (now (flags .entry)))) (length (now (new .entry))) ⌝ }
+fn put_new_i64(values: &mut [i64], at: usize, new: &[i64], new_present: &[u8])
+    requires { ⌜ (at + length (now new) ≤ length (now values)) × (length (now «new_present») ≡ length (now new)) ⌝ }
+    ensures { λ _. ⌜ now (values .exit) ≡ paste (now (values .entry)) at (map (slotIn (pos 0)) (slotList (now (new .entry)) (now («new_present» .entry)))) (length (now (new .entry))) ⌝ }
 {
     let mut i: usize = 0;
     while i < new.len() {
-        values[at + i] = held_i64(new[i], flags[i]);
+        values[at + i] = held_i64(new[i], new_present[i]);
         i += 1;
     }
 }
@@ -52,14 +54,14 @@ fn replace_i64(
     start: usize,
     end: usize,
     new: &[i64],
-    flags: &[u8],
+    new_present: &[u8],
 )
-    requires { ⌜ Fits start end old (length (now new)) (length (now flags)) (length (now values)) (length (now present)) ⌝ }
-    ensures { λ _. ⌜ Replaced (pos 0) old start end (now (new .entry)) (now (flags .entry)) (now (values .entry)) (now (values .exit)) (now (present .entry)) (now (present .exit)) ⌝ }
+    requires { ⌜ Fits start end old (length (now new)) (length (now «new_present»)) (length (now values)) (length (now present)) ⌝ }
+    ensures { λ _. ⌜ Replaced (pos 0) old start end (now (new .entry)) (now («new_present» .entry)) (now (values .entry)) (now (values .exit)) (now (present .entry)) (now (present .exit)) ⌝ }
 {
     slots_i64::splice_i64(values, old, start, end, new);
-    slots_u8::splice_u8(present, old, start, end, flags);
-    put_new_i64(values, start, new, flags);
+    slots_u8::splice_u8(present, old, start, end, new_present);
+    put_new_i64(values, start, new, new_present);
 }
 
 // The old list into the slots.
@@ -80,7 +82,7 @@ fn fill_i64(values: &[i64], present: &[u8], out: &mut [u8], at: usize)
 }
 
 // The new block around a column of so many bytes.
-fn put_i64(
+fn put_block_i64(
     block: &[u8],
     position: usize,
     size: usize,
@@ -99,11 +101,11 @@ fn put_i64(
     }
     let at = frame.at;
     fill_i64(values, present, out, at);
-    splice::accepted(out, frame.len)
+    splice::block_answer(out, frame.len)
 }
 
 // 7, 10, or the new block, for the list that stands in the slots.
-fn write_i64(
+fn write_block_i64(
     block: &[u8],
     position: usize,
     values: &[i64],
@@ -115,7 +117,7 @@ fn write_i64(
     ensures { λ r. ⌜ Finished delta (now (block .entry)) position (slotList (now (values .entry)) (now (present .entry))) (now (out .entry)) (now (out .exit)) r ⌝ }
 {
     match delta_encoder::encoded_len(values, present) {
-        Answer::Done(size) => put_i64(block, position, size as usize, values, present, out),
+        Answer::Done(size) => put_block_i64(block, position, size as usize, values, present, out),
         Answer::Refused(n, place) => splice::refused(n, place),
     }
 }
@@ -134,31 +136,29 @@ fn finish_i64(
     requires { ⌜ Good (length (take len (now values))) (take len (now present)) ⌝ }
     ensures { λ r. ⌜ Finished delta (now (block .entry)) position (slotList (take len (now (values .entry))) (take len (now (present .entry)))) (now (out .entry)) (now (out .exit)) r ⌝ }
 {
-    write_i64(block, position, &values[..len], &present[..len], out)
+    write_block_i64(block, position, &values[..len], &present[..len], out)
 }
 
 // An edit that is ready.
 fn edit_i64(
     block: &[u8],
     position: usize,
-    at: usize,
-    till: usize,
-    old: usize,
-    len: usize,
+    found: Found,
     start: usize,
     end: End,
     new: &[i64],
-    flags: &[u8],
+    new_present: &[u8],
     values: &mut [i64],
     present: &mut [u8],
     out: &mut [u8],
 ) -> Spliced
-    requires { ⌜ Ready delta (now block) position start end (length (now new)) (length (now values)) at till old len ⌝ }
-    requires { ⌜ givenOptional (length (now values)) (length (now present)) (length (now new)) (now flags) ≡ done 0 ⌝ }
-    ensures { λ r. ⌜ OptionalSpliced delta (pos 0) (now (block .entry)) position start end (now (new .entry)) (now (flags .entry))
+    requires { ⌜ Ready delta (now block) position start end (length (now new)) (length (now values)) (found .at) (found .till) (found .old) (found .len) ⌝ }
+    requires { ⌜ givenOptional (length (now values)) (length (now present)) (length (now new)) (now «new_present») ≡ done 0 ⌝ }
+    ensures { λ r. ⌜ OptionalSpliced delta (pos 0) (now (block .entry)) position start end (now (new .entry)) (now («new_present» .entry))
         (now (values .entry)) (now (values .exit)) (now (present .entry)) (now (present .exit)) (now (out .entry)) (now (out .exit)) r ⌝ }
 {
-    load_i64(block, at, till, values, present);
+    load_i64(block, found.at, found.till, values, present);
+    let old = found.old;
     replace_i64(
         values,
         present,
@@ -166,108 +166,49 @@ fn edit_i64(
         start,
         splice::end_in(end, old),
         new,
-        flags,
+        new_present,
     );
-    finish_i64(block, position, len, values, present, out)
+    finish_i64(block, position, found.len, values, present, out)
 }
 
-// Refused by its plan, or edited.
-fn splice_i64(
+// The readings of a range of the column at a position replaced by the new ones: from start up to an index, or to the end of the list.
+pub fn splice_delta(
     block: &[u8],
     position: usize,
     start: usize,
     end: End,
     new: &[i64],
-    flags: &[u8],
+    new_present: &[u8],
     values: &mut [i64],
     present: &mut [u8],
     out: &mut [u8],
 ) -> Spliced
-    ensures { λ r. ⌜ OptionalSpliced delta (pos 0) (now (block .entry)) position start end (now (new .entry)) (now (flags .entry))
+    ensures { λ r. ⌜ OptionalSpliced delta (pos 0) (now (block .entry)) position start end (now (new .entry)) (now («new_present» .entry))
         (now (values .entry)) (now (values .exit)) (now (present .entry)) (now (present .exit)) (now (out .entry)) (now (out .exit)) r ⌝ }
 {
     match splice::plan(
         block,
         position,
-        splice::DELTA,
-        splice::DELTA,
+        ColumnKind::Delta,
         start,
         end,
         new.len(),
-        flags,
+        new_present,
         values.len(),
         present.len(),
     ) {
-        Planned::Ready(at, till, old, len) => edit_i64(
+        Planned::Ready(found) => edit_i64(
             block,
             position,
-            at,
-            till,
-            old,
-            len,
+            found,
             start,
             end,
             new,
-            flags,
+            new_present,
             values,
             present,
             out,
         ),
         Planned::Refused(n, place) => splice::refused(n, place),
     }
-}
-
-// The readings from start up to end of the column at a position replaced by the new ones.
-pub fn splice_delta(
-    block: &[u8],
-    position: usize,
-    start: usize,
-    end: usize,
-    new: &[i64],
-    flags: &[u8],
-    values: &mut [i64],
-    present: &mut [u8],
-    out: &mut [u8],
-) -> Spliced
-    ensures { λ r. ⌜ OptionalSpliced delta (pos 0) (now (block .entry)) position start (End.At end) (now (new .entry)) (now (flags .entry))
-        (now (values .entry)) (now (values .exit)) (now (present .entry)) (now (present .exit)) (now (out .entry)) (now (out .exit)) r ⌝ }
-{
-    splice_i64(
-        block,
-        position,
-        start,
-        End::At(end),
-        new,
-        flags,
-        values,
-        present,
-        out,
-    )
-}
-
-// The readings from start to the end of the list replaced by the new ones.
-pub fn splice_delta_to_end(
-    block: &[u8],
-    position: usize,
-    start: usize,
-    new: &[i64],
-    flags: &[u8],
-    values: &mut [i64],
-    present: &mut [u8],
-    out: &mut [u8],
-) -> Spliced
-    ensures { λ r. ⌜ OptionalSpliced delta (pos 0) (now (block .entry)) position start End.OfList (now (new .entry)) (now (flags .entry))
-        (now (values .entry)) (now (values .exit)) (now (present .entry)) (now (present .exit)) (now (out .entry)) (now (out .exit)) r ⌝ }
-{
-    splice_i64(
-        block,
-        position,
-        start,
-        End::OfList,
-        new,
-        flags,
-        values,
-        present,
-        out,
-    )
 }

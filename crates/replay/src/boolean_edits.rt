@@ -1,4 +1,4 @@
-// The calls splice_boolean and splice_boolean_to_end. What it is lent is room for the inputs.
+// The call splice_boolean. What it is lent is room for the inputs.
 use crate::edits;
 use crate::edits::Aim;
 use crate::fields;
@@ -84,21 +84,6 @@ fn lend(
     edit(line, rest, aim, block, new, values, k, out, n)
 }
 
-// By the call of the range.
-fn splice(aim: Aim, block: &[u8], new: &[u8], values: &mut [u8], out: &mut [u8]) -> Spliced {
-    if aim.to_end {
-        return boolean_range::splice_boolean_to_end(
-            block,
-            aim.position,
-            aim.start,
-            new,
-            values,
-            out,
-        );
-    }
-    boolean_range::splice_boolean(block, aim.position, aim.start, aim.end, new, values, out)
-}
-
 // Edits in the first k slots into the first n bytes of out, which there are.
 fn edit(
     line: &[u8],
@@ -117,7 +102,16 @@ fn edit(
     if out.len() < n {
         return Verdict::Malformed;
     }
-    let s = splice(aim, block, new, &mut values[0..k], &mut out[0..n]);
+    let end = aim.end;
+    let s = boolean_range::splice_boolean(
+        block,
+        aim.position,
+        aim.start,
+        end,
+        new,
+        &mut values[0..k],
+        &mut out[0..n],
+    );
     edited(line, c, s, &values[0..k], &out[0..n])
 }
 

@@ -1,4 +1,4 @@
-// The calls splice_delta and splice_delta_to_end. What it is lent is room for the inputs.
+// The call splice_delta. What it is lent is room for the inputs.
 use crate::edits;
 use crate::edits::Aim;
 use crate::fields;
@@ -159,41 +159,6 @@ fn lend(
 }
 
 // Edits in the first slots, k and m, into the first n bytes of out, which there are.
-// By the call of the range.
-fn splice(
-    aim: Aim,
-    block: &[u8],
-    new: &[i64],
-    new_present: &[u8],
-    values: &mut [i64],
-    present: &mut [u8],
-    out: &mut [u8],
-) -> Spliced {
-    if aim.to_end {
-        return delta_range::splice_delta_to_end(
-            block,
-            aim.position,
-            aim.start,
-            new,
-            new_present,
-            values,
-            present,
-            out,
-        );
-    }
-    delta_range::splice_delta(
-        block,
-        aim.position,
-        aim.start,
-        aim.end,
-        new,
-        new_present,
-        values,
-        present,
-        out,
-    )
-}
-
 fn edit(
     line: &[u8],
     c: Cursor,
@@ -217,9 +182,12 @@ fn edit(
     if out.len() < n {
         return Verdict::Malformed;
     }
-    let s = splice(
-        aim,
+    let end = aim.end;
+    let s = delta_range::splice_delta(
         block,
+        aim.position,
+        aim.start,
+        end,
         new,
         new_present,
         &mut values[0..k],

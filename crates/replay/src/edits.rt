@@ -8,6 +8,7 @@ use crate::fields::Verdict;
 use crate::integer_edits;
 use crate::rooms;
 use crate::tables;
+use splice::End;
 use splice::Spliced;
 
 // The family's calls by name.
@@ -24,12 +25,11 @@ pub fn run(name: &[u8], line: &[u8], c: Cursor) -> Verdict {
     Verdict::Unknown
 }
 
-// The column and the range of an edit, and the cursor behind them. A range to the end of the list has the call that takes only a start.
+// The column and the range of an edit, and the cursor behind them.
 pub struct Aim {
     pub position: usize,
     pub start: usize,
-    pub end: usize,
-    pub to_end: bool,
+    pub end: End,
     pub rest: Cursor,
 }
 
@@ -39,18 +39,17 @@ pub fn take_aim(line: &[u8], c: Cursor) -> Aim {
     let s = fields::take_number(line, p.rest, u64::MAX);
     let at_end = s.rest;
     if check::same(fields::field(line, at_end), b"end") {
-        return aimed(p, s, 0, true, fields::next(line, at_end));
+        return aimed(p, s, End::OfList, fields::next(line, at_end));
     }
     let e = fields::take_number(line, at_end, u64::MAX);
-    aimed(p, s, e.value as usize, false, e.rest)
+    aimed(p, s, End::At(e.value as usize), e.rest)
 }
 
-fn aimed(p: Taken, s: Taken, end: usize, to_end: bool, rest: Cursor) -> Aim {
+fn aimed(p: Taken, s: Taken, end: End, rest: Cursor) -> Aim {
     Aim {
         position: p.value as usize,
         start: s.value as usize,
         end,
-        to_end,
         rest,
     }
 }

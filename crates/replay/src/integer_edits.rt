@@ -1,4 +1,4 @@
-// The calls splice_integer and splice_integer_to_end. What it is lent is room for the inputs.
+// The call splice_integer. What it is lent is room for the inputs.
 use crate::edits;
 use crate::edits::Aim;
 use crate::fields;
@@ -159,41 +159,6 @@ fn lend(
 }
 
 // Edits in the first slots, k and m, into the first n bytes of out, which there are.
-// By the call of the range.
-fn splice(
-    aim: Aim,
-    block: &[u8],
-    new: &[u64],
-    new_present: &[u8],
-    values: &mut [u64],
-    present: &mut [u8],
-    out: &mut [u8],
-) -> Spliced {
-    if aim.to_end {
-        return rle_range::splice_integer_to_end(
-            block,
-            aim.position,
-            aim.start,
-            new,
-            new_present,
-            values,
-            present,
-            out,
-        );
-    }
-    rle_range::splice_integer(
-        block,
-        aim.position,
-        aim.start,
-        aim.end,
-        new,
-        new_present,
-        values,
-        present,
-        out,
-    )
-}
-
 fn edit(
     line: &[u8],
     c: Cursor,
@@ -217,9 +182,12 @@ fn edit(
     if out.len() < n {
         return Verdict::Malformed;
     }
-    let s = splice(
-        aim,
+    let end = aim.end;
+    let s = rle_range::splice_integer(
         block,
+        aim.position,
+        aim.start,
+        end,
         new,
         new_present,
         &mut values[0..k],

@@ -18,7 +18,9 @@ ghost use Rattle.splice.specs.Kinds.{integer};
 ghost use Rattle.splice.specs.Ready.{HasRow, Ready, Fits, Replaced, Good, Writable, putBehind, Finished};
 use block_frame::put_frame;
 use encoding::Answer;
+use splice::ColumnKind;
 use splice::End;
+use splice::Found;
 use splice::Planned;
 use splice::Spliced;
 
@@ -33,13 +35,13 @@ fn held_u64(v: u64, flag: u8) -> u64
 }
 
 // The new readings in the slots from `at` on.
-fn put_new_u64(values: &mut [u64], at: usize, new: &[u64], flags: &[u8])
-    requires { ⌜ (at + length (now new) ≤ length (now values)) × (length (now flags) ≡ length (now new)) ⌝ }
-    ensures { λ _. ⌜ now (values .exit) ≡ paste (now (values .entry)) at (map (slotIn 0) (slotList (now (new .entry)) (now (flags .entry)))) (length (now (new .entry))) ⌝ }
+fn put_new_u64(values: &mut [u64], at: usize, new: &[u64], new_present: &[u8])
+    requires { ⌜ (at + length (now new) ≤ length (now values)) × (length (now «new_present») ≡ length (now new)) ⌝ }
+    ensures { λ _. ⌜ now (values .exit) ≡ paste (now (values .entry)) at (map (slotIn 0) (slotList (now (new .entry)) (now («new_present» .entry)))) (length (now (new .entry))) ⌝ }
 {
     let mut i: usize = 0;
     while i < new.len() {
-        values[at + i] = held_u64(new[i], flags[i]);
+        values[at + i] = held_u64(new[i], new_present[i]);
         i += 1;
     }
 }
@@ -52,14 +54,14 @@ fn replace_u64(
     start: usize,
     end: usize,
     new: &[u64],
-    flags: &[u8],
+    new_present: &[u8],
 )
-    requires { ⌜ Fits start end old (length (now new)) (length (now flags)) (length (now values)) (length (now present)) ⌝ }
-    ensures { λ _. ⌜ Replaced 0 old start end (now (new .entry)) (now (flags .entry)) (now (values .entry)) (now (values .exit)) (now (present .entry)) (now (present .exit)) ⌝ }
+    requires { ⌜ Fits start end old (length (now new)) (length (now «new_present»)) (length (now values)) (length (now present)) ⌝ }
+    ensures { λ _. ⌜ Replaced 0 old start end (now (new .entry)) (now («new_present» .entry)) (now (values .entry)) (now (values .exit)) (now (present .entry)) (now (present .exit)) ⌝ }
 {
     slots_u64::splice_u64(values, old, start, end, new);
-    slots_u8::splice_u8(present, old, start, end, flags);
-    put_new_u64(values, start, new, flags);
+    slots_u8::splice_u8(present, old, start, end, new_present);
+    put_new_u64(values, start, new, new_present);
 }
 
 // The old list into the slots.
@@ -80,7 +82,7 @@ fn fill_u64(values: &[u64], present: &[u8], out: &mut [u8], at: usize)
 }
 
 // The new block around a column of so many bytes.
-fn put_u64(
+fn put_block_u64(
     block: &[u8],
     position: usize,
     size: usize,
@@ -99,11 +101,11 @@ fn put_u64(
     }
     let at = frame.at;
     fill_u64(values, present, out, at);
-    splice::accepted(out, frame.len)
+    splice::block_answer(out, frame.len)
 }
 
 // 7, 10, or the new block, for the list that stands in the slots.
-fn write_u64(
+fn write_block_u64(
     block: &[u8],
     position: usize,
     values: &[u64],
@@ -115,7 +117,7 @@ fn write_u64(
     ensures { λ r. ⌜ Finished integer (now (block .entry)) position (slotList (now (values .entry)) (now (present .entry))) (now (out .entry)) (now (out .exit)) r ⌝ }
 {
     match rle_encoder::encoded_len(values, present) {
-        Answer::Done(size) => put_u64(block, position, size as usize, values, present, out),
+        Answer::Done(size) => put_block_u64(block, position, size as usize, values, present, out),
         Answer::Refused(n, place) => splice::refused(n, place),
     }
 }
@@ -134,31 +136,29 @@ fn finish_u64(
     requires { ⌜ Good (length (take len (now values))) (take len (now present)) ⌝ }
     ensures { λ r. ⌜ Finished integer (now (block .entry)) position (slotList (take len (now (values .entry))) (take len (now (present .entry)))) (now (out .entry)) (now (out .exit)) r ⌝ }
 {
-    write_u64(block, position, &values[..len], &present[..len], out)
+    write_block_u64(block, position, &values[..len], &present[..len], out)
 }
 
 // An edit that is ready.
 fn edit_u64(
     block: &[u8],
     position: usize,
-    at: usize,
-    till: usize,
-    old: usize,
-    len: usize,
+    found: Found,
     start: usize,
     end: End,
     new: &[u64],
-    flags: &[u8],
+    new_present: &[u8],
     values: &mut [u64],
     present: &mut [u8],
     out: &mut [u8],
 ) -> Spliced
-    requires { ⌜ Ready integer (now block) position start end (length (now new)) (length (now values)) at till old len ⌝ }
-    requires { ⌜ givenOptional (length (now values)) (length (now present)) (length (now new)) (now flags) ≡ done 0 ⌝ }
-    ensures { λ r. ⌜ OptionalSpliced integer 0 (now (block .entry)) position start end (now (new .entry)) (now (flags .entry))
+    requires { ⌜ Ready integer (now block) position start end (length (now new)) (length (now values)) (found .at) (found .till) (found .old) (found .len) ⌝ }
+    requires { ⌜ givenOptional (length (now values)) (length (now present)) (length (now new)) (now «new_present») ≡ done 0 ⌝ }
+    ensures { λ r. ⌜ OptionalSpliced integer 0 (now (block .entry)) position start end (now (new .entry)) (now («new_present» .entry))
         (now (values .entry)) (now (values .exit)) (now (present .entry)) (now (present .exit)) (now (out .entry)) (now (out .exit)) r ⌝ }
 {
-    load_u64(block, at, till, values, present);
+    load_u64(block, found.at, found.till, values, present);
+    let old = found.old;
     replace_u64(
         values,
         present,
@@ -166,108 +166,49 @@ fn edit_u64(
         start,
         splice::end_in(end, old),
         new,
-        flags,
+        new_present,
     );
-    finish_u64(block, position, len, values, present, out)
+    finish_u64(block, position, found.len, values, present, out)
 }
 
-// Refused by its plan, or edited.
-fn splice_u64(
+// The readings of a range of the column at a position replaced by the new ones: from start up to an index, or to the end of the list.
+pub fn splice_integer(
     block: &[u8],
     position: usize,
     start: usize,
     end: End,
     new: &[u64],
-    flags: &[u8],
+    new_present: &[u8],
     values: &mut [u64],
     present: &mut [u8],
     out: &mut [u8],
 ) -> Spliced
-    ensures { λ r. ⌜ OptionalSpliced integer 0 (now (block .entry)) position start end (now (new .entry)) (now (flags .entry))
+    ensures { λ r. ⌜ OptionalSpliced integer 0 (now (block .entry)) position start end (now (new .entry)) (now («new_present» .entry))
         (now (values .entry)) (now (values .exit)) (now (present .entry)) (now (present .exit)) (now (out .entry)) (now (out .exit)) r ⌝ }
 {
     match splice::plan(
         block,
         position,
-        splice::ACTOR,
-        splice::INTEGER,
+        ColumnKind::Integer,
         start,
         end,
         new.len(),
-        flags,
+        new_present,
         values.len(),
         present.len(),
     ) {
-        Planned::Ready(at, till, old, len) => edit_u64(
+        Planned::Ready(found) => edit_u64(
             block,
             position,
-            at,
-            till,
-            old,
-            len,
+            found,
             start,
             end,
             new,
-            flags,
+            new_present,
             values,
             present,
             out,
         ),
         Planned::Refused(n, place) => splice::refused(n, place),
     }
-}
-
-// The readings from start up to end of the column at a position replaced by the new ones.
-pub fn splice_integer(
-    block: &[u8],
-    position: usize,
-    start: usize,
-    end: usize,
-    new: &[u64],
-    flags: &[u8],
-    values: &mut [u64],
-    present: &mut [u8],
-    out: &mut [u8],
-) -> Spliced
-    ensures { λ r. ⌜ OptionalSpliced integer 0 (now (block .entry)) position start (End.At end) (now (new .entry)) (now (flags .entry))
-        (now (values .entry)) (now (values .exit)) (now (present .entry)) (now (present .exit)) (now (out .entry)) (now (out .exit)) r ⌝ }
-{
-    splice_u64(
-        block,
-        position,
-        start,
-        End::At(end),
-        new,
-        flags,
-        values,
-        present,
-        out,
-    )
-}
-
-// The readings from start to the end of the list replaced by the new ones.
-pub fn splice_integer_to_end(
-    block: &[u8],
-    position: usize,
-    start: usize,
-    new: &[u64],
-    flags: &[u8],
-    values: &mut [u64],
-    present: &mut [u8],
-    out: &mut [u8],
-) -> Spliced
-    ensures { λ r. ⌜ OptionalSpliced integer 0 (now (block .entry)) position start End.OfList (now (new .entry)) (now (flags .entry))
-        (now (values .entry)) (now (values .exit)) (now (present .entry)) (now (present .exit)) (now (out .entry)) (now (out .exit)) r ⌝ }
-{
-    splice_u64(
-        block,
-        position,
-        start,
-        End::OfList,
-        new,
-        flags,
-        values,
-        present,
-        out,
-    )
 }

@@ -44,7 +44,7 @@ fn move_i64(s: &mut [i64], from: usize, to: usize, n: usize)
     move_up_i64(s, from, to, n);
 }
 
-fn put_i64(s: &mut [i64], at: usize, new: &[i64])
+fn copy_i64(s: &mut [i64], at: usize, new: &[i64])
     requires { ⌜ at + length (now new) ≤ length (now s) ⌝ }
     ensures { λ _. ⌜ now (s .exit) ≡ paste (now (s .entry)) at (now (new .entry)) (length (now (new .entry))) ⌝ }
 {
@@ -75,7 +75,7 @@ fn place_i64(s: &mut [i64], old: usize, start: usize, end: usize, new: &[i64]) -
     let to = start + new.len();
     let n = old - end;
     move_i64(s, end, to, n);
-    put_i64(s, start, new);
+    copy_i64(s, start, new);
     let len = to + n;
     if len < old {
         clear_i64(s, len, old);

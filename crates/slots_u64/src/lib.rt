@@ -43,7 +43,7 @@ fn move_u64(s: &mut [u64], from: usize, to: usize, n: usize)
     move_up_u64(s, from, to, n);
 }
 
-fn put_u64(s: &mut [u64], at: usize, new: &[u64])
+fn copy_u64(s: &mut [u64], at: usize, new: &[u64])
     requires { ⌜ at + length (now new) ≤ length (now s) ⌝ }
     ensures { λ _. ⌜ now (s .exit) ≡ paste (now (s .entry)) at (now (new .entry)) (length (now (new .entry))) ⌝ }
 {
@@ -74,7 +74,7 @@ fn place_u64(s: &mut [u64], old: usize, start: usize, end: usize, new: &[u64]) -
     let to = start + new.len();
     let n = old - end;
     move_u64(s, end, to, n);
-    put_u64(s, start, new);
+    copy_u64(s, start, new);
     let len = to + n;
     if len < old {
         clear_u64(s, len, old);

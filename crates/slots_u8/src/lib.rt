@@ -43,7 +43,7 @@ fn move_u8(s: &mut [u8], from: usize, to: usize, n: usize)
     move_up_u8(s, from, to, n);
 }
 
-fn put_u8(s: &mut [u8], at: usize, new: &[u8])
+fn copy_u8(s: &mut [u8], at: usize, new: &[u8])
     requires { ⌜ at + length (now new) ≤ length (now s) ⌝ }
     ensures { λ _. ⌜ now (s .exit) ≡ paste (now (s .entry)) at (now (new .entry)) (length (now (new .entry))) ⌝ }
 {
@@ -74,7 +74,7 @@ fn place_u8(s: &mut [u8], old: usize, start: usize, end: usize, new: &[u8]) -> u
     let to = start + new.len();
     let n = old - end;
     move_u8(s, end, to, n);
-    put_u8(s, start, new);
+    copy_u8(s, start, new);
     let len = to + n;
     if len < old {
         clear_u8(s, len, old);

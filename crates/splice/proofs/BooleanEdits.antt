@@ -20,10 +20,8 @@ use Rattle.splice.specs.declared.End.{End}
 use Rattle.splice.specs.Kinds.{boolean}
 use Rattle.splice.specs.Contract.{itself, BooleanSpliced}
 use Rattle.splice.specs.Ready.{Ready, Good, Finished}
-use Rattle.splice.specs.Steps.{planned}
+use Rattle.splice.specs.Steps.{ready, stopped, planFor}
 use Rattle.splice.specs.declared.Spliced.{Spliced}
-use Rattle.splice.specs.declared.Planned.{Planned}
-use Rattle.splice.specs.declared.Planned.the-variants as plan
 use Rattle.splice.proofs.Planning.{sound-is, plan-stops, plan-ready, in-order}
 use Rattle.splice.proofs.Replacing.{splice-fits, in-loaded}
 use Rattle.splice.proofs.Editing.{newList, new-length, edit-answer, edit-output, edit-slots}
@@ -108,26 +106,25 @@ module _ (s : List ℕ) (position start : ℕ) (end : End) (new v out : List ℕ
       let b : eqb (length new) (length new) ≡ true = eq-eqb (length new) (length new) refl in
       rw (a, b)
 
-  module _ {p : Planned} (e : p ≡ planned 4 4 s position start end G (length new) (length v)) where
-    as-planned : p ≡ planned 4 4 s position start end (givenBoolean new) (length new) (length v)
-    as-planned = e ∙ ap (λ (g : Answer). planned 4 4 s position start end g (length new) (length v)) given-is
+  as-planned : planFor (boolean .kind) s position start end G (length new) (length v) ≡ planFor (boolean .kind) s position start end (givenBoolean new) (length new) (length v)
+  as-planned = ap (λ (g : Answer). planFor (boolean .kind) s position start end g (length new) (length v)) given-is
 
-    pub boolean-stopped : {number place : ℕ} {r : Spliced} → p ≡ plan.Refused number place → r ≡ refusal number place
-        → BooleanSpliced boolean s position start end new v v out out r
-    boolean-stopped {number} {place} q a =
-        let k = plan-stops boolean boolean-counts s position start end (givenBoolean new) new (length new) (λ g h. refl) (length v) (length out) (sym q ∙ as-planned) in
-        record {
-          answer = a ∙ ap answered (sym k);
-          values = ap (λ (x : Edited ℕ). slotsLeft 0 itself x v) (sym k);
-          output = ap (λ (x : Edited ℕ). outLeft x out) (sym k);
-        }
+  pub boolean-stopped : {number place : ℕ} {r : Spliced} → stopped number place ≡ planFor (boolean .kind) s position start end G (length new) (length v)
+      → r ≡ refusal number place → BooleanSpliced boolean s position start end new v v out out r
+  boolean-stopped {number} {place} q a =
+      let k = plan-stops boolean boolean-counts s position start end (givenBoolean new) new (length new) (λ g h. refl) (length v) (length out) (q ∙ as-planned) in
+      record {
+        answer = a ∙ ap answered (sym k);
+        values = ap (λ (x : Edited ℕ). slotsLeft 0 itself x v) (sym k);
+        output = ap (λ (x : Edited ℕ). outLeft x out) (sym k);
+      }
 
-    given-zero : {g : ℕ} → givenBoolean new ≡ done g → givenBoolean new ≡ done 0
-    unfolding givenBoolean
-    given-zero h = ap flagsIn (given-clean new h 0)
+  given-zero : {g : ℕ} → givenBoolean new ≡ done g → givenBoolean new ≡ done 0
+  unfolding givenBoolean
+  given-zero h = ap flagsIn (given-clean new h 0)
 
-    pub boolean-ready : {at till old len : ℕ} → p ≡ plan.Ready at till old len
-        → Ready boolean s position start end (length new) (length v) at till old len × (givenBoolean new ≡ done 0)
-    boolean-ready q =
-        let k = plan-ready boolean boolean-counts s position start end (givenBoolean new) new (length new) (λ g h. refl) (length v) (length out) (sym q ∙ as-planned) in
-        (k .0, given-zero (k .1 .1))
+  pub boolean-ready : {at till old len : ℕ} → ready at till old len ≡ planFor (boolean .kind) s position start end G (length new) (length v)
+      → Ready boolean s position start end (length new) (length v) at till old len × (givenBoolean new ≡ done 0)
+  boolean-ready q =
+      let k = plan-ready boolean boolean-counts s position start end (givenBoolean new) new (length new) (λ g h. refl) (length v) (length out) (q ∙ as-planned) in
+      (k .0, given-zero (k .1 .1))

@@ -19,7 +19,7 @@ use Rattle.delta_encoder.specs.Differences.{differences, deltaBytes, wideAt}
 use Rattle.boolean_decoder.specs.Turns.{counted, turnAt, boolTrace}
 use Rattle.raw_column.specs.Table.{rowsAt, inOrder, plain, sum, parse}
 use Rattle.block_frame.specs.Columns.{cut, joined, rowsBytes, tableBytes, blockBytes, newBlock}
-use Rattle.splice.specs.Edit.{accepted, edited}
+use Rattle.splice.specs.Edit.{accepted, serves, edited}
 use Rattle.splice.specs.declared.End.the-variants as ending
 use Rattle.splice.specs.Kinds.{integer, delta, boolean}
 
@@ -46,7 +46,7 @@ pub record Examples : Type 0 where
       ≡ accepted 3 (some (pos 80) ∷ some (pos 81) ∷ some (pos 80) ∷ []) (0x01 ∷ 0x13 ∷ 0x05 ∷ 0x7d ∷ 0xd0 ∷ 0x00 ∷ 0x01 ∷ 0x7f ∷ [])
 
 pub examples : Examples
-unfolding u64At i64At u32At encoded walk outcome outcomeOf absentHead begun headAt value repeated literalNext literals runOf runAt traceFrom trace literalOf joinNone joinSome stretches allBytes stretchBytes stretchesBytes anyPresent columnBytes heldSum added addUp deltaTrace differences deltaBytes wideAt counted turnAt boolTrace rowsAt inOrder plain sum parse cut joined rowsBytes tableBytes blockBytes newBlock edited
+unfolding u64At i64At u32At encoded walk outcome outcomeOf absentHead begun headAt value repeated literalNext literals runOf runAt traceFrom trace literalOf joinNone joinSome stretches allBytes stretchBytes stretchesBytes anyPresent columnBytes heldSum added addUp deltaTrace differences deltaBytes wideAt counted turnAt boolTrace rowsAt inOrder plain sum parse cut joined rowsBytes tableBytes blockBytes newBlock edited serves
 examples =
     record {
       e1 = refl;

@@ -127,7 +127,7 @@ module _ {A : Type 0} (K : Kind A) (s s′ specs lens : List ℕ) (next position
         rw (sound, sound′)
         (alike-if (ltb position (length specs))
         (λ e. rw same
-        (alike-if (serves (K .low) (K .high) (getD specs position 0))
+        (alike-if (serves (K .kind) (getD specs position 0))
         (λ e. alike-if (below start end) (λ e. both-stop 18 0) (λ e. column-alike (columnAt s′ lens next position) start end given new slots))
         (λ e. both-stop 17 0)))
         (λ e. both-stop 16 0))
@@ -200,7 +200,7 @@ module _ {A : Type 0} (K : Kind A) (s specs lens : List ℕ) (next position star
   right-in : (slots : ℕ) (given : Answer) → RightIn (editIn K s position start end given new slots room (tab specs lens next))
   right-in slots given =
       cond-by RightIn (ltb position (length specs))
-      (λ h. cond-by RightIn (serves (K .low) (K .high) (getD specs position 0))
+      (λ h. cond-by RightIn (serves (K .kind) (getD specs position 0))
       (λ h′. cond-by RightIn (below start end) (λ h″. tt) (λ h″. right-column slots given (ltb-true position (length specs) h)))
       (λ h′. tt)) (λ h. tt)
 

@@ -21,9 +21,8 @@ use Rattle.splice.specs.Edit.{Edited, endIn, flagsIn, givenOptional, ref
 use Rattle.splice.specs.declared.End.{End}
 use Rattle.splice.specs.Contract.{slotIn, flagIn, OptionalSpliced}
 use Rattle.splice.specs.Ready.{Ready, Fits, Replaced, Good, Finished}
-use Rattle.splice.specs.Steps.{countAs, planned}
+use Rattle.splice.specs.Steps.{countAs, ready, stopped, planFor}
 use Rattle.splice.specs.declared.Spliced.{Spliced}
-use Rattle.splice.specs.declared.Planned.the-variants as plan
 use Rattle.splice.proofs.Planning.{sound-is, plan-stops, plan-ready, in-order}
 use Rattle.splice.proofs.Replacing.{held-length, in-loaded, values-of, flags-of, back, flags-good, flags-kept}
 use Rattle.splice.proofs.Counting.{values-outcome}
@@ -147,14 +146,14 @@ module _ {A : Type 0} (K : Kind (Option A)) (T : List ℕ → Trace (Reading A))
 
 -- ---- an edit of optional readings as it begins: by its plan
 module _ {A : Type 0} (K : Kind (Option A)) (z : A) (s : List ℕ) (position start : ℕ) (end : End) (new : List A) (flags : List ℕ) (v : List A) (p out : List ℕ)
-    (counts : (c : List ℕ) → countAs (K .low) c ≡ outcome (K .reads c)) where
+    (counts : (c : List ℕ) → countAs (K .kind) c ≡ outcome (K .reads c)) where
   abbrev G : Answer
   G = givenOptional (length v) (length p) (length new) flags
 
   readings : (g : ℕ) → G ≡ done g → length new ≡ length (slotList new flags)
   readings g e = list-length z new flags (given-good (length v) (length p) (length new) flags e .paired)
 
-  pub optional-stopped : {number place : ℕ} {r : Spliced} → plan.Refused number place ≡ planned (K .low) (K .high) s position start end G (length new) (length v)
+  pub optional-stopped : {number place : ℕ} {r : Spliced} → stopped number place ≡ planFor (K .kind) s position start end G (length new) (length v)
       → r ≡ refusal number place → OptionalSpliced K z s position start end new flags v v p p out out r
   optional-stopped {number} {place} e a =
       let q = plan-stops K counts s position start end G (slotList new flags) (length new) readings (length v) (length out) e in
@@ -173,7 +172,7 @@ module _ {A : Type 0} (K : Kind (Option A)) (z : A) (s : List ℕ) (position sta
       let b : eqb (length new) (length flags) ≡ true = eq-eqb (length new) (length flags) (sym (k .paired)) in
       rw (a, b, k .clean)
 
-  pub optional-ready : {at till old len : ℕ} → plan.Ready at till old len ≡ planned (K .low) (K .high) s position start end G (length new) (length v)
+  pub optional-ready : {at till old len : ℕ} → ready at till old len ≡ planFor (K .kind) s position start end G (length new) (length v)
       → Ready K s position start end (length new) (length v) at till old len × (G ≡ done 0)
   optional-ready e =
       let r = plan-ready K counts s position start end G (slotList new flags) (length new) readings (length v) (length out) e in

@@ -20,70 +20,81 @@ use Rattle.delta_decoder.specs.Sums.{deltaTrace}
 use Rattle.boolean_decoder.specs.Turns.{boolTrace}
 use Rattle.raw_column.specs.Table.{Tab, tab, faulty, parse}
 use Rattle.block_frame.specs.Columns.{newBlock}
-use Rattle.column_part.specs.Part.{startOf}
-use Rattle.raw_column.specs.declared.Opened.{Opened}
-use Rattle.raw_column.proofs.Opening.{Open, specsOf, rows-long, len-at, sum-to}
+use Rattle.column_part.specs.Part.{startOf, noPart, rowPart, partIn, partAt}
+use Rattle.column_part.specs.declared.Part.{Part}
+use Rattle.raw_column.proofs.Opening.{ParseOk, parse-ok, sum-to}
 use Rattle.block_frame.proofs.Tables.{table-fills}
 use Rattle.slots.specs.Splice.{spliced}
 use Rattle.slots.proofs.Splicing.{length-spliced}
 use Rattle.splice.specs.Kind.{Kind}
 use Rattle.splice.specs.Edit.{Edited, stop, endIn, below, serves, flagsIn, givenOptional, finished, editList, readBy, editColumn, editIn, edited}
-use Rattle.splice.specs.Steps.{rowIn, rowFor, countAs, resultLength, resultJudged, onResult, onCount, onGiven, onRow, planned}
+use Rattle.splice.specs.Steps.{rowIn, rowFor, countAs, resultLength, resultJudged, Plan, ready, stopped, onResult, onCount, onGiven, onRow, planFor}
 use Rattle.splice.specs.Ready.{Located, Ready}
+use Rattle.splice.specs.declared.Row.{Row}
 use Rattle.splice.specs.declared.Row.the-variants as row
+use Rattle.splice.specs.declared.ColumnKind.{ColumnKind}
+use Rattle.splice.specs.declared.ColumnKind.the-variants as kind
 use Rattle.splice.specs.declared.End.{End}
 use Rattle.splice.specs.declared.End.the-variants as ending
-use Rattle.splice.specs.declared.Planned.{Planned}
-use Rattle.splice.specs.declared.Planned.the-variants as plan
 
--- ---- the type
-pub serves-not : (low high spec : ℕ) → typeOf spec < low → serves low high spec ≡ false
-serves-not low high spec h = rw (lt-leb low (typeOf spec) h)
+-- ---- the type, of a specification whose type has the number t
+module _ (k : ColumnKind) (spec : ℕ) {t : ℕ} (e : t ≡ typeOf spec) where
+  pub serves-actor : k ≡ kind.Integer → t ≡ 1 → eqb t 1 ≡ serves k spec
+  unfolding serves
+  serves-actor h f = rw (h, ← e, f)
 
-pub serves-to : (low high spec : ℕ) → low ≤ typeOf spec → serves low high spec ≡ leb (typeOf spec) high
-serves-to low high spec h = rw (le-leb low (typeOf spec) h)
+  pub serves-integer : k ≡ kind.Integer → (t ≡ 1 → ⊥) → eqb t 2 ≡ serves k spec
+  unfolding serves
+  serves-integer h f = rw (h, ← e, ne-eqb t 1 f)
 
--- ---- the row
-module _ (low high : ℕ) (s : List ℕ) (position start : ℕ) (end : End) where
-  pub row-bad : {number place : ℕ} → parse s ≡ faulty number place → row.Refused number place ≡ rowFor low high s position start end
-  unfolding rowFor
-  row-bad e = rw e
+  pub serves-delta : k ≡ kind.Delta → eqb t 3 ≡ serves k spec
+  unfolding serves
+  serves-delta h = rw (h, ← e)
 
-  module _ {o : Opened} (g : Open s o) where
-    pub row-16 : o .table .rows ≤ position → row.Refused 16 0 ≡ rowFor low high s position start end
-    unfolding rowFor
-    row-16 h =
-        let b : length (specsOf o) ≤ position = omega (arith, rows-long g) in
-        rw (g .is, le-ltb position (length (specsOf o)) b)
+  pub serves-boolean : k ≡ kind.Boolean → eqb t 4 ≡ serves k spec
+  unfolding serves
+  serves-boolean h = rw (h, ← e)
 
-    module _ (h : position < o .table .rows) where
-      within : position < length (specsOf o)
-      within = omega (arith, rows-long g)
+-- ---- the row, by the part that was located
+module _ (kind : ColumnKind) (s : List ℕ) (position start : ℕ) (end : End) where
+  -- what is known of a row that has a part: where it lies, and its specification
+  abbrev RowAs : Part → Row → Type 0
+  RowAs p r = (p .number ≡ 0 → r ≡ cond (serves kind (p .spec)) (cond (below start end) (row.Refused 18 0) (row.At (p .start) (p .start + p .len))) (row.Refused 17 0))
+      × ((p .number ≡ 0 → ⊥) → r ≡ row.Refused (p .number) (p .place))
 
-      spec-at : getD (specsOf o) position 0 ≡ getD (o .table .specs) position 0
-      spec-at = getD-take (o .table .rows) (o .table .specs) position 0 h
+  row-as : (t : Tab) → ParseOk (length s) t → RowAs (partIn position t) (rowIn kind position start end t)
+  row-as (faulty number place) h = (λ e. absurd (omega (arith, h, e)), λ e. refl)
+  row-as (tab specs lens next) h = go (ltb position (length specs))
+    where
+      go : (b : Bool) → RowAs (cond b (rowPart specs lens next position) (noPart 16 0))
+          (cond b (cond (serves kind (getD specs position 0)) (cond (below start end) (row.Refused 18 0) (row.At (startOf lens next position) (startOf lens next position + getD lens position 0))) (row.Refused 17 0)) (row.Refused 16 0))
+      go true = (λ e. refl, λ e. absurd (e refl))
+      go false = (λ e. absurd (omega (arith, e)), λ e. refl)
 
-      pub row-17 : serves low high (getD (o .table .specs) position 0) ≡ false → row.Refused 17 0 ≡ rowFor low high s position start end
-      unfolding rowFor
-      row-17 e = rw (g .is, lt-ltb position (length (specsOf o)) within, spec-at, e)
+  module _ {p : Part} (e : p ≡ partAt s position) where
+    known : RowAs p (rowFor kind s position start end)
+    unfolding partAt rowFor
+    known = subst (λ (x : Part). RowAs x (rowIn kind position start end (parse s))) (sym e) (row-as (parse s) (parse-ok s))
 
-      pub row-18 : serves low high (getD (o .table .specs) position 0) ≡ true → below start end ≡ true → row.Refused 18 0 ≡ rowFor low high s position start end
-      unfolding rowFor
-      row-18 e t = rw (g .is, lt-ltb position (length (specsOf o)) within, spec-at, e, t)
+    pub row-bad : (p .number ≡ 0 → ⊥) → row.Refused (p .number) (p .place) ≡ rowFor kind s position start end
+    row-bad h = sym (known .1 h)
 
-      pub row-given : serves low high (getD (o .table .specs) position 0) ≡ true → below start end ≡ false
-          → row.At (o .start + getD (o .table .starts) position 0) (o .start + getD (o .table .starts) position 0 + getD (o .table .lens) position 0)
-          ≡ rowFor low high s position start end
-      unfolding rowFor
-      row-given e t =
-          rw (g .is, lt-ltb position (length (specsOf o)) within, spec-at, e, t, g .starts-are position h, ← len-at g h)
+    module _ (h : p .number ≡ 0) where
+      pub row-17 : serves kind (p .spec) ≡ false → row.Refused 17 0 ≡ rowFor kind s position start end
+      row-17 f = sym (known .0 h ∙ rw f)
+
+      pub row-18 : serves kind (p .spec) ≡ true → below start end ≡ true → row.Refused 18 0 ≡ rowFor kind s position start end
+      row-18 f g = sym (known .0 h ∙ rw (f, g))
+
+      pub row-given : serves kind (p .spec) ≡ true → below start end ≡ false → row.At (p .start) (p .start + p .len) ≡ rowFor kind s position start end
+      row-given f g = sym (known .0 h ∙ rw (f, g))
 
 -- a row that was found
-module _ {low high : ℕ} {s : List ℕ} {position at till : ℕ} where
+module _ {kind : ColumnKind} {s : List ℕ} {position at till : ℕ} where
   located-in : (specs lens : List ℕ) (next : ℕ) → parse s ≡ tab specs lens next → position < length specs
-      → serves low high (getD specs position 0) ≡ true
+      → serves kind (getD specs position 0) ≡ true
       → row.At (startOf lens next position) (startOf lens next position + getD lens position 0) ≡ row.At at till
-      → Located low high s position at till
+      → Located kind s position at till
   located-in specs lens next e h v q =
       let a : startOf lens next position ≡ at = cc in
       let b : startOf lens next position + getD lens position 0 ≡ till = cc in
@@ -96,19 +107,19 @@ module _ {low high : ℕ} {s : List ℕ} {position at till : ℕ} where
         served = v;
       }
 
-  pub row-found : (start : ℕ) (end : End) → row.At at till ≡ rowFor low high s position start end
-      → Located low high s position at till × (below start end ≡ false)
+  pub row-found : (start : ℕ) (end : End) → row.At at till ≡ rowFor kind s position start end
+      → Located kind s position at till × (below start end ≡ false)
   unfolding rowFor
   row-found start end e = go (parse s) refl (sym e)
     where
-      go : (t : Tab) → parse s ≡ t → rowIn low high position start end t ≡ row.At at till → Located low high s position at till × (below start end ≡ false)
+      go : (t : Tab) → parse s ≡ t → rowIn kind position start end t ≡ row.At at till → Located kind s position at till × (below start end ≡ false)
       go (faulty number place) p q = let z : _≡_ {A = ℕ} 0 1 = cc in absurd (omega arith)
-      go (tab specs lens next) p q = rows (ltb position (length specs)) (serves low high (getD specs position 0)) (below start end) refl refl refl q
+      go (tab specs lens next) p q = rows (ltb position (length specs)) (serves kind (getD specs position 0)) (below start end) refl refl refl q
         where
-          rows : (a b c : Bool) → ltb position (length specs) ≡ a → serves low high (getD specs position 0) ≡ b → below start end ≡ c
+          rows : (a b c : Bool) → ltb position (length specs) ≡ a → serves kind (getD specs position 0) ≡ b → below start end ≡ c
               → cond a (cond b (cond c (row.Refused 18 0) (row.At (startOf lens next position) (startOf lens next position + getD lens position 0))) (row.Refused 17 0)) (row.Refused 16 0)
               ≡ row.At at till
-              → Located low high s position at till × (below start end ≡ false)
+              → Located kind s position at till × (below start end ≡ false)
           rows true true false x y w q = (located-in specs lens next p (ltb-true position (length specs) x) y q, w)
           rows true true true x y w q = let z : _≡_ {A = ℕ} 0 1 = cc in absurd (omega arith)
           rows true false c x y w q = let z : _≡_ {A = ℕ} 0 1 = cc in absurd (omega arith)
@@ -147,19 +158,6 @@ module _ (values present new : ℕ) (flags : List ℕ) where
   pub given-bad : {number place : ℕ} → values ≡ present → listJudged new flags ≡ refused number place → (number ≡ 5 → ⊥)
       → refused number place ≡ givenOptional values present new flags
   given-bad {number} {place} h e f = sym (ap (λ (t : Bool). cond t (done 0) (refused number place)) (ne-eqb number 5 f)) ∙ judged-as h e
-
--- ---- the count, by the kind of column
-pub count-delta : (kind : ℕ) (s : List ℕ) → kind ≡ 3 → outcome (deltaTrace s) ≡ countAs kind s
-unfolding countAs
-count-delta kind s h = rw (eq-eqb kind 3 h)
-
-pub count-boolean : (kind : ℕ) (s : List ℕ) → (kind ≡ 3 → ⊥) → kind ≡ 4 → outcome (boolTrace s) ≡ countAs kind s
-unfolding countAs
-count-boolean kind s g h = rw (ne-eqb kind 3 g, eq-eqb kind 4 h)
-
-pub count-rest : (kind : ℕ) (s : List ℕ) → (kind ≡ 3 → ⊥) → (kind ≡ 4 → ⊥) → outcome (trace u64E s) ≡ countAs kind s
-unfolding countAs
-count-rest kind s g h = rw (ne-eqb kind 3 g, ne-eqb kind 4 h)
 
 -- ---- the result
 -- a range that does not end below its start is ordered in any list that it starts in
@@ -213,15 +211,15 @@ sound-is t {n} e = go (t .ending) e
     go (fault number place) q = let z : _≡_ {A = ℕ} 0 1 = cc in absurd (omega arith)
 
 -- ---- THE CHECKS ARE THOSE OF AN EDIT, over the kind of column
-module _ {A : Type 0} (K : Kind A) (counts : (c : List ℕ) → countAs (K .low) c ≡ outcome (K .reads c)) (s : List ℕ) (position start : ℕ) (end : End)
+module _ {A : Type 0} (K : Kind A) (counts : (c : List ℕ) → countAs (K .kind) c ≡ outcome (K .reads c)) (s : List ℕ) (position start : ℕ) (end : End)
     (given : Answer) (new : List A) (n : ℕ) (many : (g : ℕ) → given ≡ done g → n ≡ length new) (slots room : ℕ) where
   -- the edit that a plan stands for: the refusal; or ready, and the new readings are good
-  abbrev Follows : Planned → Edited A → Type 0
-  Follows (plan.Refused number place) e = e ≡ stop number place
-  Follows (plan.Ready at till old len) e = Ready K s position start end n slots at till old len × ((g : ℕ) × (given ≡ done g))
+  abbrev Follows : Plan → Edited A → Type 0
+  Follows (stopped number place) e = e ≡ stop number place
+  Follows (ready at till old len) e = Ready K s position start end n slots at till old len × ((g : ℕ) × (given ≡ done g))
 
   module _ (specs lens : List ℕ) (next : ℕ) (e : parse s ≡ tab specs lens next) (h : position < length specs)
-      (v : serves (K .low) (K .high) (getD specs position 0) ≡ true) (t : below start end ≡ false) where
+      (v : serves (K .kind) (getD specs position 0) ≡ true) (t : below start end ≡ false) where
     abbrev at : ℕ
     at = startOf lens next position
 
@@ -297,18 +295,18 @@ module _ {A : Type 0} (K : Kind A) (counts : (c : List ℕ) → countAs (K .low)
     follows-count (refused number place) q g = refl
 
     follows-given : (o : Answer) → given ≡ o
-        → Follows (onGiven (K .low) s at (at + len) start end n slots o)
+        → Follows (onGiven (K .kind) s at (at + len) start end n slots o)
         (editColumn K column start end o new slots room (newBlock s specs lens next position))
     follows-given (refused number place) q = refl
     follows-given (done g) q = rw (part-is, counts column) (follows-count (outcome (K .reads column)) refl (g, q))
 
   follows-in : (t : Tab) → parse s ≡ t
-      → Follows (onRow (K .low) s start end given n slots (rowIn (K .low) (K .high) position start end t)) (editIn K s position start end given new slots room t)
+      → Follows (onRow (K .kind) s start end given n slots (rowIn (K .kind) position start end t)) (editIn K s position start end given new slots room t)
   follows-in (faulty number place) e = refl
-  follows-in (tab specs lens next) e = rows (ltb position (length specs)) (serves (K .low) (K .high) (getD specs position 0)) (below start end) refl refl refl
+  follows-in (tab specs lens next) e = rows (ltb position (length specs)) (serves (K .kind) (getD specs position 0)) (below start end) refl refl refl
     where
-      rows : (a b c : Bool) → ltb position (length specs) ≡ a → serves (K .low) (K .high) (getD specs position 0) ≡ b → below start end ≡ c
-          → Follows (onRow (K .low) s start end given n slots
+      rows : (a b c : Bool) → ltb position (length specs) ≡ a → serves (K .kind) (getD specs position 0) ≡ b → below start end ≡ c
+          → Follows (onRow (K .kind) s start end given n slots
           (cond a (cond b (cond c (row.Refused 18 0) (row.At (startOf lens next position) (startOf lens next position + getD lens position 0))) (row.Refused 17 0)) (row.Refused 16 0)))
           (cond a
           (cond b (cond c (stop 18 0) (editColumn K (take (getD lens position 0) (drop (startOf lens next position) s)) start end given new slots room (newBlock s specs lens next position)))
@@ -319,17 +317,17 @@ module _ {A : Type 0} (K : Kind A) (counts : (c : List ℕ) → countAs (K .low)
       rows true true false x y w =
           follows-given specs lens next e (ltb-true position (length specs) x) y w given refl
 
-  follows : Follows (planned (K .low) (K .high) s position start end given n slots) (edited K s position start end given new slots room)
+  follows : Follows (planFor (K .kind) s position start end given n slots) (edited K s position start end given new slots room)
   unfolding rowFor edited
   follows = follows-in (parse s) refl
 
-  pub plan-stops : {number place : ℕ} → plan.Refused number place ≡ planned (K .low) (K .high) s position start end given n slots
+  pub plan-stops : {number place : ℕ} → stopped number place ≡ planFor (K .kind) s position start end given n slots
       → edited K s position start end given new slots room ≡ stop number place
-  plan-stops e = subst (λ (p : Planned). Follows p (edited K s position start end given new slots room)) (sym e) follows
+  plan-stops e = subst (λ (p : Plan). Follows p (edited K s position start end given new slots room)) (sym e) follows
 
-  pub plan-ready : {at till old len : ℕ} → plan.Ready at till old len ≡ planned (K .low) (K .high) s position start end given n slots
+  pub plan-ready : {at till old len : ℕ} → ready at till old len ≡ planFor (K .kind) s position start end given n slots
       → Ready K s position start end n slots at till old len × ((g : ℕ) × (given ≡ done g))
-  plan-ready e = subst (λ (p : Planned). Follows p (edited K s position start end given new slots room)) (sym e) follows
+  plan-ready e = subst (λ (p : Plan). Follows p (edited K s position start end given new slots room)) (sym e) follows
 
 pub leb-rest : (n k m : ℕ) → k ≤ n → leb m (n - k) ≡ leb (k + m) n
 leb-rest n k m h = go (leb m (n - k)) refl

@@ -1,5 +1,5 @@
 -- The new block written around its new column, over the kind of column: one law for each way out. Assumes nothing.
-use Prim.Native.Nat.{ℕ, _+_, _-_, _≤_, _<_}
+use Prim.Native.Nat.{ℕ, _+_, _-_, _^_, _≤_, _<_}
 use mathlib.Core.Path.{_≡_, refl, sym, ap, _∙_}
 use mathlib.Core.List.{List, [], _++_, append-nil}
 use mathlib.Core.Option.{Option, none, some}
@@ -15,12 +15,16 @@ use Rattle.leb128.specs.Answer.{Answer, done, refused, within, left}
 use Rattle.encoding.specs.Limit.{limit}
 use Rattle.encoding.specs.Given.{slotList, flagsJudged, listJudged, sized, Encoded}
 use Rattle.delta_encoder.specs.Differences.{differences, wideAt, widthJudged, deltaJudged}
+use Rattle.raw_column.specs.Rows.{opened}
+use Rattle.raw_column.specs.Table.{tab, parse}
+use Rattle.raw_column.specs.declared.Opened.{Opened}
+use Rattle.raw_column.proofs.Opening.{open-bad, open-good}
 use Rattle.block_frame.specs.Columns.{newBlock}
 use Rattle.block_frame.specs.Frame.{Framed, shut, room, frontOf, tailOf, framed, frameOf, frameOut}
 use Rattle.block_frame.specs.declared.Frame.{Frame}
-use Rattle.block_frame.proofs.Blocks.{frame-given, frame-refused, frame-is-block, frame-filled}
+use Rattle.block_frame.proofs.Blocks.{others-kept, frame-given, frame-refused, frame-is-block, frame-filled}
 use Rattle.splice.specs.Kind.{Kind}
-use Rattle.splice.specs.Edit.{Edited, late, accepted, finished, refusal, acceptance, answered, outLeft}
+use Rattle.splice.specs.Edit.{Edited, late, accepted, finished, refusal, acceptance, blockIn, blockAnswer, answered, outLeft}
 use Rattle.splice.specs.Ready.{HasRow, Good, putBehind, finishedAt, Finished}
 use Rattle.splice.specs.declared.Spliced.{Spliced}
 
@@ -69,6 +73,24 @@ module _ (bytes : List ℕ) (m : ℕ) where
   unfolding sized
   size-refused none e = let z : _≡_ {A = ℕ} 0 1 = cc in absurd (omega arith)
   size-refused (some i) {number} {place} e = let p : i ≡ place = cc in (ap some p, cc)
+
+-- ---- the answer for bytes that were read as a table: refused as the table was, or its rows
+pub block-refused : (b : List ℕ) {o : Opened} → o ≡ opened (parse b) → (o .number ≡ 0 → ⊥) → refusal (o .number) (o .place) ≡ blockAnswer b
+unfolding blockAnswer
+block-refused b e h = rw (open-bad b e h)
+
+pub block-read : (b : List ℕ) {o : Opened} {n : ℕ} → o ≡ opened (parse b) → o .number ≡ 0 → n ≡ length b
+    → record { table = o .table; number = 0; place = 0; len = n } ≡ blockAnswer b
+unfolding blockAnswer
+block-read b {o} {n} e h l =
+    ap (λ (x : Opened). record { table = x .table; number = 0; place = 0; len = n }) e
+    ∙ ap (λ (k : ℕ). record { table = opened (parse b) .table; number = 0; place = 0; len = k }) l
+    ∙ sym (ap (blockIn b) (open-good b e h .is))
+
+-- a block that reads as a table is answered so
+pub block-sound : (b : List ℕ) {specs lens : List ℕ} {next : ℕ} → parse b ≡ tab specs lens next → blockAnswer b ≡ acceptance b
+unfolding blockAnswer
+block-sound b e = ap (blockIn b) e
 
 -- ---- the ways out
 module _ {A : Type 0} (K : Kind A) {s : List ℕ} {position : ℕ} (g : HasRow s position) (xs : List A) (out : List ℕ) where
@@ -151,13 +173,14 @@ module _ {A : Type 0} (K : Kind A) {s : List ℕ} {position : ℕ} (g : HasRow s
             let z : _≡_ {A = ℕ} 10 0 = sym (ap (λ (y : Frame). y .number) (frame ∙ ap (frameOf size) q)) ∙ h in
             absurd (omega (arith, z))
 
-    pub finish-done : Room → {out′ : List ℕ} {r : Spliced} → out′ ≡ putBehind (f .at) W mid → r ≡ acceptance (take (f .len) out′) → Finished K s position xs out out′ r
-    finish-done m {out′} {r} w a =
+    pub finish-done : Room → length s < 2 ^ 64 → length out < 2 ^ 64 → {out′ : List ℕ} {r : Spliced} → out′ ≡ putBehind (f .at) W mid → r ≡ blockAnswer (take (f .len) out′) → Finished K s position xs out out′ r
+    finish-done m short small {out′} {r} w a =
         let B = blockOf W in
+        let reads = others-kept s (g .specs) (g .lens) (g .next) position W short (g .is) (g .there) (omega (arith, m .roomy, small)) .table in
         let q : mid ≡ frameOut size (room head tail) out = made ∙ ap (λ (y : Framed). frameOut size y out) (m .is) in
         let o : out′ ≡ B ++ drop (length B) out =
         w ∙ ap (λ (n : ℕ). putBehind n W mid) (m .at-is) ∙ ap (putBehind (length head) W) q
         ∙ ap (λ (n : ℕ). take (length head) (frameOut size (room head tail) out) ++ (W ++ drop n (drop (length head) (frameOut size (room head tail) out)))) (sym sizes)
         ∙ frame-filled s (g .specs) (g .lens) (g .next) position size (length out) head tail (g .is) (m .is) W (sym sizes) out refl in
         let t : take (f .len) out′ ≡ B = ap (take (f .len)) o ∙ take-at B (drop (length B) out) (f .len) (sym (m .len-is)) in
-        by (ends ∙ ap (λ (b : Bool). cond b (accepted 0 xs B) (late 10 0 0 xs)) (le-leb (length B) (length out) (m .fits))) (a ∙ ap acceptance t) o
+        by (ends ∙ ap (λ (b : Bool). cond b (accepted 0 xs B) (late 10 0 0 xs)) (le-leb (length B) (length out) (m .fits))) (a ∙ ap blockAnswer t ∙ block-sound B reads) o

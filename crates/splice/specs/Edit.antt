@@ -4,7 +4,7 @@
 use Prim.Native.Nat.{ℕ, _+_, max}
 use mathlib.Core.List.{List, _++_, map}
 use mathlib.Core.Option.{Option, none, some}
-use mathlib.Core.Bool.{Bool, false, cond, _&&_}
+use mathlib.Core.Bool.{Bool, false, cond, _&&_, _||_}
 use lib.Dec.{ltb, leb, eqb}
 use lib.ListN.{length, getD, take, drop}
 use Rattle.leb128.specs.Answer.{Answer, done, refused}
@@ -18,6 +18,8 @@ use Rattle.column_part.specs.Part.{startOf}
 use Rattle.raw_column.specs.Rows.{noTable, opened}
 use Rattle.slots.specs.Splice.{spliced, inSlots}
 use Rattle.splice.specs.Kind.{Kind}
+use Rattle.splice.specs.declared.ColumnKind.{ColumnKind}
+use Rattle.splice.specs.declared.ColumnKind.the-variants as kind
 use Rattle.splice.specs.declared.Spliced.{Spliced}
 use Rattle.splice.specs.declared.End.{End}
 use Rattle.splice.specs.declared.End.the-variants as ending
@@ -39,9 +41,11 @@ abbrev pub below : ℕ → End → Bool
 below start (ending.At e) = ltb e start
 below start ending.OfList = false
 
--- refusal 17: is the specification's type one from low to high?
-abbrev pub serves : ℕ → ℕ → ℕ → Bool
-serves low high spec = leb low (typeOf spec) && leb (typeOf spec) high
+-- refusal 17: is the specification's type one of the kind? (01, "Specifications": 1 Actor, 2 Integer, 3 DeltaInteger, 4 Boolean)
+unfoldable pub serves : ColumnKind → ℕ → Bool
+serves kind.Integer spec = eqb (typeOf spec) 1 || eqb (typeOf spec) 2
+serves kind.Delta spec = eqb (typeOf spec) 3
+serves kind.Boolean spec = eqb (typeOf spec) 4
 
 -- refusal 8 of an edit: the lengths of the slots and of the new list first, then the first bad byte of the new readings
 abbrev pub flagsIn : Option ℕ → Answer
@@ -85,7 +89,7 @@ module _ {A : Type 0} (K : Kind A) where
   -- 17 and 18 for end below start
   abbrev pub editRow : List ℕ → ℕ → ℕ → End → Answer → List A → ℕ → ℕ → (List ℕ → List ℕ) → Edited A
   editRow column spec start end given new slots room block =
-      cond (serves (K .low) (K .high) spec)
+      cond (serves (K .kind) spec)
       (cond (below start end) (stop 18 0) (editColumn column start end given new slots room block))
       (stop 17 0)
 
@@ -107,6 +111,14 @@ refusal number place = record { table = noTable; number = number; place = place;
 
 abbrev pub acceptance : List ℕ → Spliced
 acceptance block = record { table = opened (parse block) .table; number = 0; place = 0; len = length block }
+
+-- the same of any bytes: where they are no block, the table's refusal
+abbrev pub blockIn : List ℕ → Tab → Spliced
+blockIn block (tab specs lens next) = acceptance block
+blockIn block (faulty number place) = refusal number place
+
+unfoldable pub blockAnswer : List ℕ → Spliced
+blockAnswer block = blockIn block (parse block)
 
 abbrev pub answered : {A : Type 0} → Edited A → Spliced
 answered (stop number place) = refusal number place

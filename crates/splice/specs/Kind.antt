@@ -1,14 +1,14 @@
--- What an edit needs of the kind of column that it edits: which types it serves (from low to high), what a column's bytes read as, what a list is written as,
--- and the first reading that cannot be written (7). A is one reading of the list.
+-- What an edit needs of the kind of column that it edits: which kind it is, what a column's bytes read as, what a list is written as, and the first
+-- reading that cannot be written (7). A is one reading of the list.
 use Prim.Native.Nat.{ℕ}
 use mathlib.Core.List.{List, map}
 use mathlib.Core.Option.{Option}
 use Rattle.encoding.specs.Walk.{Trace}
 use Rattle.encoding.specs.Column.{Reading, value}
+use Rattle.splice.specs.declared.ColumnKind.{ColumnKind}
 
 pub record Kind (A : Type 0) : Type 0 where
-  pub low : ℕ
-  pub high : ℕ
+  pub kind : ColumnKind
   pub reads : List ℕ → Trace A
   pub writes : List A → List ℕ
   pub wide : List A → Option ℕ

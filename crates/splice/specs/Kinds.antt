@@ -1,4 +1,4 @@
--- The three kinds of column that edits serve (01, "Specifications": 1 Actor, 2 Integer, 3 DeltaInteger, 4 Boolean).
+-- The three kinds of column that edits serve.
 use Prim.Native.Nat.{ℕ}
 use mathlib.Core.Option.{Option, none}
 use lib.IntN.{ℤ, pos}
@@ -10,12 +10,12 @@ use Rattle.delta_encoder.specs.Differences.{differences, deltaBytes, wideAt}
 use Rattle.boolean_decoder.specs.Turns.{boolTrace}
 use Rattle.boolean_encoder.specs.Writer.{boolBytes}
 use Rattle.splice.specs.Kind.{Kind, values}
+use Rattle.splice.specs.declared.ColumnKind.the-variants as kind
 
 abbrev pub integer : Kind (Option ℕ)
 integer =
     record {
-      low = 1;
-      high = 2;
+      kind = kind.Integer;
       reads = λ s. values (trace u64E s);
       writes = columnBytes u64E;
       wide = λ xs. none;
@@ -24,8 +24,7 @@ integer =
 abbrev pub delta : Kind (Option ℤ)
 delta =
     record {
-      low = 3;
-      high = 3;
+      kind = kind.Delta;
       reads = λ s. values (deltaTrace s);
       writes = deltaBytes;
       wide = λ xs. wideAt 0 (differences (pos 0) xs);
@@ -35,8 +34,7 @@ delta =
 abbrev pub boolean : Kind ℕ
 boolean =
     record {
-      low = 4;
-      high = 4;
+      kind = kind.Boolean;
       reads = boolTrace;
       writes = boolBytes;
       wide = λ xs. none;

@@ -17,6 +17,7 @@ use Rattle.splice.specs.Kind.{Kind}
 use Rattle.splice.specs.Edit.{Edited, stop, endIn, below, serves, finished, answered, outLeft}
 use Rattle.splice.specs.Contract.{slotIn}
 use Rattle.splice.specs.Steps.{resultLength}
+use Rattle.splice.specs.declared.ColumnKind.{ColumnKind}
 use Rattle.splice.specs.declared.Spliced.{Spliced}
 use Rattle.splice.specs.declared.End.{End}
 
@@ -28,17 +29,17 @@ pub record HasRow (s : List ℕ) (position : ℕ) : Type 0 where
   pub is : parse s ≡ tab specs lens next
   pub there : position < length specs
 
--- a row of a type from low to high, its column from `at` up to `till`
-pub record Located (low high : ℕ) (s : List ℕ) (position at till : ℕ) : Type 0 where
+-- a row of a type that the kind serves, its column from `at` up to `till`
+pub record Located (kind : ColumnKind) (s : List ℕ) (position at till : ℕ) : Type 0 where
   pub row : HasRow s position
-  pub served : serves low high (getD (row .specs) position 0) ≡ true
+  pub served : serves kind (getD (row .specs) position 0) ≡ true
   pub at-is : at ≡ startOf (row .lens) (row .next) position
   pub till-is : till ≡ startOf (row .lens) (row .next) position + getD (row .lens) position 0
   pub ends : till ≤ length s
 
 -- an edit that no check stops before the slots are filled: its column has `old` readings, and the new list `len`
 pub record Ready {A : Type 0} (K : Kind A) (s : List ℕ) (position start : ℕ) (end : End) (new slots at till old len : ℕ) : Type 0 where
-  pub located : Located (K .low) (K .high) s position at till
+  pub located : Located (K .kind) s position at till
   pub reads : outcome (K .reads (take (till - at) (drop at s))) ≡ done old
   pub starts : start ≤ old
   pub not-below : below start end ≡ false

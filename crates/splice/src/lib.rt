@@ -7,10 +7,11 @@ ghost use lib.Dec.{leb};
 ghost use lib.ListN.{length, take};
 ghost use Rattle.encoding.specs.Cases.{answerOf};
 ghost use Rattle.encoding.specs.Limit.{limit};
-ghost use Rattle.splice.specs.Edit.{endIn, below, serves, givenOptional, refusal, acceptance};
-ghost use Rattle.splice.specs.Steps.{rowFor, countAs, resultJudged, onResult, columnPlanned, planned};
+ghost use Rattle.splice.specs.Edit.{endIn, below, serves, givenOptional, refusal, blockAnswer};
+ghost use Rattle.splice.specs.Steps.{rowFor, countAs, resultJudged, onResult, columnPlanned, planOf, planFor};
 use column_specification::ColumnSpec;
 use encoding::Answer;
+use encoding::LIMIT;
 use raw_column::Table;
 use raw_column::read_table;
 
@@ -20,6 +21,13 @@ pub struct Spliced {
     pub number: u8,
     pub place: usize,
     pub len: usize,
+}
+
+// The kinds of column that edits serve.
+pub enum ColumnKind {
+    Integer,
+    Delta,
+    Boolean,
 }
 
 // Where a range of readings ends: before the reading at an index, or where the list does.
@@ -34,33 +42,30 @@ enum Row {
     Refused(u8, usize),
 }
 
-// An edit that no check stops before the slots are filled: where the column begins and ends, and how long the old list and the new one
-// are; or a refusal.
+// What is known of an edit that is ready: where its column begins and ends in the block, and how long the old list is and the new one.
+pub struct Found {
+    pub at: usize,
+    pub till: usize,
+    pub old: usize,
+    pub len: usize,
+}
+
+// An edit that no check stops before the slots are filled; or a refusal.
 pub enum Planned {
-    Ready(usize, usize, usize, usize),
+    Ready(Found),
     Refused(u8, usize),
 }
 
-// The types that columns have, as numbers.
-pub const ACTOR: u8 = 1;
-
-pub const INTEGER: u8 = 2;
-
-pub const DELTA: u8 = 3;
-
-pub const BOOLEAN: u8 = 4;
-
-const LIMIT: usize = 4294967295;
-
-// Is the specification's type one from low to high?
-fn has_type(spec: u32, low: u8, high: u8) -> bool
-    ensures { λ r. ⌜ r ≡ serves low high spec ⌝ }
+// Is the specification's type one of the kind?
+fn is_served(kind: ColumnKind, spec: u32) -> bool
+    ensures { λ r. ⌜ r ≡ serves kind spec ⌝ }
 {
     let t = ColumnSpec(spec).col_type().as_u8();
-    if t < low {
-        return false;
+    match kind {
+        ColumnKind::Integer => t == 1 || t == 2,
+        ColumnKind::Delta => t == 3,
+        ColumnKind::Boolean => t == 4,
     }
-    t <= high
 }
 
 // Does a range end below its start, whatever the list?
@@ -74,35 +79,30 @@ fn is_below(end: End, start: usize) -> bool
 }
 
 // Table faults, 16, 17, and 18 for an end below its start.
-fn row_at(block: &[u8], position: usize, low: u8, high: u8, start: usize, end: End) -> Row
-    ensures { λ r. ⌜ r ≡ rowFor low high (now (block .entry)) position start end ⌝ }
+fn row_at(block: &[u8], position: usize, kind: ColumnKind, start: usize, end: End) -> Row
+    ensures { λ r. ⌜ r ≡ rowFor kind (now (block .entry)) position start end ⌝ }
 {
-    let o = read_table(block);
-    if o.number != 0 {
-        return Row::Refused(o.number, o.place);
+    let p = column_part::locate(block, position);
+    if p.number != 0 {
+        return Row::Refused(p.number, p.place);
     }
-    let t = o.table;
-    if t.rows <= position {
-        return Row::Refused(16, 0);
-    }
-    if !has_type(t.specs[position], low, high) {
+    if !is_served(kind, p.spec) {
         return Row::Refused(17, 0);
     }
     if is_below(end, start) {
         return Row::Refused(18, 0);
     }
-    let at = o.start + t.starts[position] as usize;
-    Row::At(at, at + t.lens[position] as usize)
+    Row::At(p.start, p.start + p.len)
 }
 
 // 8: lengths first, then the first bad presence byte. How many readings there may be is judged of the result alone.
-fn judge_new(values: usize, present: usize, new: usize, flags: &[u8]) -> Answer
-    ensures { λ r. ⌜ answerOf r ≡ givenOptional values present new (now (flags .entry)) ⌝ }
+fn judge_new(values: usize, present: usize, new: usize, new_present: &[u8]) -> Answer
+    ensures { λ r. ⌜ answerOf r ≡ givenOptional values present new (now («new_present» .entry)) ⌝ }
 {
     if values != present {
         return Answer::Refused(8, 0);
     }
-    match given_list::judge_list(new, flags) {
+    match given_list::judge_list(new, new_present) {
         Answer::Done(_) => Answer::Done(0),
         Answer::Refused(n, place) => {
             if n == 5 {
@@ -114,16 +114,14 @@ fn judge_new(values: usize, present: usize, new: usize, flags: &[u8]) -> Answer
 }
 
 // How many readings the column has, read as its kind is, or its first fault.
-fn count_as(kind: u8, column: &[u8]) -> Answer
+fn count_as(kind: ColumnKind, column: &[u8]) -> Answer
     ensures { λ r. ⌜ answerOf r ≡ countAs kind (now (column .entry)) ⌝ }
 {
-    if kind == DELTA {
-        return delta_decoder::count(column);
+    match kind {
+        ColumnKind::Integer => rle_decoder::count(column),
+        ColumnKind::Delta => delta_decoder::count(column),
+        ColumnKind::Boolean => boolean_decoder::count(column),
     }
-    if kind == BOOLEAN {
-        return boolean_decoder::count(column);
-    }
-    rle_decoder::count(column)
 }
 
 // Where the range ends in a list of so many readings.
@@ -140,10 +138,11 @@ pub fn end_in(end: End, old: usize) -> usize
 fn may_have(kept: usize, new: usize) -> bool
     ensures { λ r. ⌜ r ≡ leb (kept + new) limit ⌝ }
 {
-    if LIMIT < kept {
+    let most = LIMIT as usize;
+    if most < kept {
         return false;
     }
-    new <= LIMIT - kept
+    new <= most - kept
 }
 
 // 18 for a start or an end beyond the list, 5 for the result, 9; or the new list's length.
@@ -183,10 +182,15 @@ fn plan_result(
     slots: usize,
 ) -> Planned
     requires { ⌜ below start end ≡ false ⌝ }
-    ensures { λ r. ⌜ r ≡ onResult at till old (resultJudged old start end new slots) ⌝ }
+    ensures { λ r. ⌜ planOf r ≡ onResult at till old (resultJudged old start end new slots) ⌝ }
 {
     match judge_result(old, start, end, new, slots) {
-        Answer::Done(len) => Planned::Ready(at, till, old, len as usize),
+        Answer::Done(len) => Planned::Ready(Found {
+            at: at,
+            till: till,
+            old: old,
+            len: len as usize,
+        }),
         Answer::Refused(n, place) => Planned::Refused(n, place),
     }
 }
@@ -196,14 +200,14 @@ fn plan_column(
     block: &[u8],
     at: usize,
     till: usize,
-    kind: u8,
+    kind: ColumnKind,
     start: usize,
     end: End,
     new: usize,
     slots: usize,
 ) -> Planned
     requires { ⌜ (at ≤ till) × (till ≤ length (now block)) × (below start end ≡ false) ⌝ }
-    ensures { λ r. ⌜ r ≡ columnPlanned kind (now (block .entry)) at till start end new slots ⌝ }
+    ensures { λ r. ⌜ planOf r ≡ columnPlanned kind (now (block .entry)) at till start end new slots ⌝ }
 {
     match count_as(kind, &block[at..till]) {
         Answer::Done(old) => plan_result(at, till, old as usize, start, end, new, slots),
@@ -215,20 +219,19 @@ fn plan_column(
 pub fn plan(
     block: &[u8],
     position: usize,
-    low: u8,
-    high: u8,
+    kind: ColumnKind,
     start: usize,
     end: End,
     new: usize,
-    flags: &[u8],
+    new_present: &[u8],
     values: usize,
     present: usize,
 ) -> Planned
-    ensures { λ r. ⌜ r ≡ planned low high (now (block .entry)) position start end (givenOptional values present new (now (flags .entry))) new values ⌝ }
+    ensures { λ r. ⌜ planOf r ≡ planFor kind (now (block .entry)) position start end (givenOptional values present new (now («new_present» .entry))) new values ⌝ }
 {
-    match row_at(block, position, low, high, start, end) {
-        Row::At(at, till) => match judge_new(values, present, new, flags) {
-            Answer::Done(_) => plan_column(block, at, till, low, start, end, new, values),
+    match row_at(block, position, kind, start, end) {
+        Row::At(at, till) => match judge_new(values, present, new, new_present) {
+            Answer::Done(_) => plan_column(block, at, till, kind, start, end, new, values),
             Answer::Refused(n, place) => Planned::Refused(n, place),
         },
         Row::Refused(n, place) => Planned::Refused(n, place),
@@ -252,12 +255,15 @@ pub fn refused(number: u8, place: usize) -> Spliced
     }
 }
 
-// The new block, of `len` bytes, stands at the front of `out`.
-pub fn accepted(out: &[u8], len: usize) -> Spliced
-    ensures { λ r. ⌜ r ≡ acceptance (take len (now (out .entry))) ⌝ }
+// The answer for a block of `len` bytes at the front of `out`: its table and length, or the table's own refusal.
+pub fn block_answer(out: &[u8], len: usize) -> Spliced
+    ensures { λ r. ⌜ r ≡ blockAnswer (take len (now (out .entry))) ⌝ }
 {
     let n = if len < out.len() { len } else { out.len() };
     let o = read_table(&out[..n]);
+    if o.number != 0 {
+        return refused(o.number, o.place);
+    }
     let t = o.table;
     Spliced {
         table: t,

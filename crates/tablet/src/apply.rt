@@ -3,14 +3,14 @@ use crate::kinds::Kind;
 use crate::load;
 use crate::rooms;
 use crate::text::between;
+use splice::End;
 use splice::Spliced;
 
-// The column and the range that an edit replaces; `end` is not looked at where the range goes to the end of the list.
+// The column and the range that an edit replaces.
 pub struct Range {
     pub position: usize,
     pub start: usize,
-    pub end: usize,
-    pub to_end: bool,
+    pub end: End,
 }
 
 // How long the new block is, or a refusal's number and place. The number is 0 where there is none.
@@ -31,23 +31,12 @@ fn of_spliced(s: Spliced) -> Edited {
 fn unsigned(block: &[u8], r: Range, new: &[u64], new_present: &[u8], out: &mut [u8]) -> Edited {
     let mut values = rooms::unsigned();
     let mut present = rooms::flags();
-    if r.to_end {
-        return of_spliced(rle_range::splice_integer_to_end(
-            block,
-            r.position,
-            r.start,
-            new,
-            new_present,
-            &mut values,
-            &mut present,
-            out,
-        ));
-    }
+    let end = r.end;
     of_spliced(rle_range::splice_integer(
         block,
         r.position,
         r.start,
-        r.end,
+        end,
         new,
         new_present,
         &mut values,
@@ -59,23 +48,12 @@ fn unsigned(block: &[u8], r: Range, new: &[u64], new_present: &[u8], out: &mut [
 fn signed(block: &[u8], r: Range, new: &[i64], new_present: &[u8], out: &mut [u8]) -> Edited {
     let mut values = rooms::signed();
     let mut present = rooms::flags();
-    if r.to_end {
-        return of_spliced(delta_range::splice_delta_to_end(
-            block,
-            r.position,
-            r.start,
-            new,
-            new_present,
-            &mut values,
-            &mut present,
-            out,
-        ));
-    }
+    let end = r.end;
     of_spliced(delta_range::splice_delta(
         block,
         r.position,
         r.start,
-        r.end,
+        end,
         new,
         new_present,
         &mut values,
@@ -101,21 +79,12 @@ fn yes_no(block: &[u8], r: Range, new: &[u64], out: &mut [u8]) -> Edited {
     let mut flags = rooms::flags();
     load::narrow_all(new, &mut flags);
     let given = between(&flags, 0, new.len());
-    if r.to_end {
-        return of_spliced(boolean_range::splice_boolean_to_end(
-            block,
-            r.position,
-            r.start,
-            given,
-            &mut values,
-            out,
-        ));
-    }
+    let end = r.end;
     of_spliced(boolean_range::splice_boolean(
         block,
         r.position,
         r.start,
-        r.end,
+        end,
         given,
         &mut values,
         out,

@@ -21,6 +21,7 @@ use crate::text::after;
 use crate::text::between;
 use crate::words;
 use encoding::Answer;
+use splice::End;
 
 // What is edited: the range, its column's kind, how many bytes and readings that has, and whether a file that is there may be replaced.
 struct Wanted {
@@ -190,28 +191,27 @@ fn range_of(line: &[u8], position: usize, desk: Desk) -> Range {
         return Range {
             position,
             start,
-            end: 0,
-            to_end: true,
+            end: End::OfList,
         };
     }
     Range {
         position,
         start,
-        end: column::place(words::word(line, 4), b"END", desk),
-        to_end: false,
+        end: End::At(column::place(words::word(line, 4), b"END", desk)),
     }
 }
 
 // Where a range ends in a list of so many readings.
 fn end_of(r: Range, old: usize) -> usize {
-    if r.to_end { old } else { r.end }
+    let end = r.end;
+    splice::end_in(end, old)
 }
 
 fn is_whole(r: Range) -> bool {
     if r.start == column::MISSING {
         return false;
     }
-    r.end != column::MISSING
+    end_of(r, 0) != column::MISSING
 }
 
 fn wrong(desk: Desk) -> bool {

@@ -20,6 +20,7 @@ use column_specification::ColumnType;
 use column_specification::Packed;
 use decimal::Decimal;
 use leb128_writer::Written;
+use splice::End;
 
 // The block is left as it is, and what is wrong was said.
 const STOPPED: usize = usize::MAX;
@@ -185,8 +186,7 @@ fn replace(
     let r = Range {
         position,
         start: 0,
-        end: 0,
-        to_end: false,
+        end: End::At(0),
     };
     let e = apply::apply(between(block, 0, len), r, kind, new, present, &mut out);
     if e.number != 0 {

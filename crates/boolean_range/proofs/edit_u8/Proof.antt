@@ -19,10 +19,14 @@ splice-u8-requires c κs = search needs
 
 finish-u8-requires : tie.Need-finish-u8-requires
 finish-u8-requires c κs =
-    let a = c .before .before .before .before .before .before .before .before .before .before .before .before .before .before .before .args in
-    let r = c .before .before .before .before .before .before .before .before .before .before .before .before .before .before .before .pre .0 in
-    let g = boolean-good (now (a .new)) (now (a .values)) r (c .before .before .before .before .before .before .before .before .before .before .before .before .before .before .before .pre .1) (c .before .before .before .before .before .before .before .before .before .load-u8 .ensures) (c .before .before .before .before .before .before .before .before .before .load-u8 .kept .1 .1 .1 .0) (c .before .before .before .before .before .end-in .ensures) (c .before .before .before .before .splice-u8 .ensures .1) in
-    (r .located .row, (omega (arith, r .new-fits, c .before .before .before .before .before .before .before .before .before .load-u8 .kept, c .before .before .before .before .splice-u8 .kept), g))
+    let s = c .before .before .before .before .before .before .before .before .before .before .before .before .before .before .before in
+    let splice-u8 = c .before .before .before .before .splice-u8 in
+    let end-in = c .before .before .before .before .before .end-in in
+    let load-u8 = c .before .before .before .before .before .before .before .before .before .load-u8 in
+    let a = s .args in
+    let r = s .pre .0 in
+    let g = boolean-good (now (a .new)) (now (a .values)) r (s .pre .1) (load-u8 .ensures) (load-u8 .kept .1 .1 .1 .0) (end-in .ensures) (splice-u8 .ensures .1) in
+    (r .located .row, (omega (arith, r .new-fits, load-u8 .kept, splice-u8 .kept), g))
 
 same-length : tie.Need-same-length
 same-length c = search needs
@@ -32,8 +36,12 @@ same-length-2 c = search needs
 
 returns : tie.Need-returns
 returns c =
-    let a = c .before .before .before .before .before .before .before .before .before .before .before .before .before .before .before .before .before .before .args in
-    boolean-done (now (a .new)) (now (a .values)) (c .before .before .before .before .before .before .before .before .before .before .before .before .before .before .before .before .before .before .pre .0) (c .before .before .before .before .before .before .before .before .before .before .before .before .before .before .before .before .before .before .pre .1) (c .before .before .before .before .before .before .before .before .before .before .before .before .load-u8 .ensures) (c .before .before .before .before .before .before .before .before .before .before .before .before .load-u8 .kept .1 .1 .1 .0) (c .before .before .before .before .before .before .before .before .end-in .ensures) (c .before .before .before .before .before .before .before .splice-u8 .ensures .1)
+    let s = c .before .before .before .before .before .before .before .before .before .before .before .before .before .before .before .before .before .before in
+    let splice-u8 = c .before .before .before .before .before .before .before .splice-u8 in
+    let end-in = c .before .before .before .before .before .before .before .before .end-in in
+    let load-u8 = c .before .before .before .before .before .before .before .before .before .before .before .before .load-u8 in
+    let a = s .args in
+    boolean-done (now (a .new)) (now (a .values)) (s .pre .0) (s .pre .1) (load-u8 .ensures) (load-u8 .kept .1 .1 .1 .0) (end-in .ensures) (splice-u8 .ensures .1)
     (c .before .before .finish-u8 .ensures)
 
 pub edit-u8-spec : {M : Type 1} → statement M

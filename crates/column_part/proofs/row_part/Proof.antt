@@ -19,12 +19,18 @@ mul-t11 c = search needs
 element-copy-out-t14 : tie.Need-element-copy-out-t14
 element-copy-out-t14 c = search needs
 
+mul-t16 : tie.Need-mul-t16
+mul-t16 c = search needs
+
+element-copy-out-t19 : tie.Need-element-copy-out-t19
+element-copy-out-t19 c = search needs
+
 returns : tie.Need-returns
 returns c =
-    let p = c .before .before .pre in
-    let h = p .0 in
-    rw (p .3, getD-take)
+    let p = c .before .before .before .pre in
+    let a = c .before .before .before .args in
+    rw (p .3, getD-take (a .t1 .rows) (a .t1 .lens) (a .i) 0 (p .0), getD-take (a .t1 .rows) (a .t1 .specs) (a .i) 0 (p .0))
 
 pub row-part-spec : {M : Type 1} → statement M
 row-part-spec =
-    tie.close (tie.spec mul-t5 element-copy-out-t8 add-t10 mul-t11 element-copy-out-t14 returns)
+    tie.close (tie.spec mul-t5 element-copy-out-t8 add-t10 mul-t11 element-copy-out-t14 mul-t16 element-copy-out-t19 returns)

@@ -20,17 +20,23 @@ end-in-requires c κs = search needs
 
 replace-i64-requires : tie.Need-replace-i64-requires
 replace-i64-requires c κs =
-    let a = c .before .before .before .before .before .before .before .before .before .before .before .before .before .args in
-    optional-fits delta deltaTrace (λ x. refl) (pos 0) (now (a .new)) (now (a .flags)) (now (a .values)) (now (a .present)) (c .before .before .before .before .before .before .before .before .before .before .before .before .before .pre .0) (c .before .before .before .before .before .before .before .before .before .before .before .before .before .pre .1)
-    (c .before .before .before .before .before .before .load-i64 .ensures) (c .end-in .ensures) (c .before .before .before .before .before .before .load-i64 .kept .1 .1 .1 .0) (c .before .before .before .before .before .before .load-i64 .kept .1 .1 .1 .1 .0)
+    let s = c .before .before .before .before .before .before .before .before .before .before .before .before .before in
+    let load-i64 = c .before .before .before .before .before .before .load-i64 in
+    let a = s .args in
+    optional-fits delta deltaTrace (λ x. refl) (pos 0) (now (a .new)) (now (a .new-present)) (now (a .values)) (now (a .present)) (s .pre .0) (s .pre .1)
+    (load-i64 .ensures) (c .end-in .ensures) (load-i64 .kept .1 .1 .1 .0) (load-i64 .kept .1 .1 .1 .1 .0)
 
 finish-i64-requires : tie.Need-finish-i64-requires
 finish-i64-requires c κs =
-    let a = c .before .before .before .before .before .before .before .before .before .before .before .before .before .before .before .before .before .before .before .before .args in
-    let r = c .before .before .before .before .before .before .before .before .before .before .before .before .before .before .before .before .before .before .before .before .pre .0 in
-    let g = optional-good delta deltaTrace (λ x. refl) (pos 0) (now (a .new)) (now (a .flags)) (now (a .values)) (now (a .present)) r (c .before .before .before .before .before .before .before .before .before .before .before .before .before .before .before .before .before .before .before .before .pre .1)
-    (c .before .before .before .before .before .before .before .before .before .before .before .before .before .load-i64 .ensures) (c .before .before .before .before .before .before .before .end-in .ensures) (c .before .before .before .before .before .before .replace-i64 .ensures) in
-    (r .located .row, ((omega (arith, r .new-fits, c .before .before .before .before .before .before .before .before .before .before .before .before .before .load-i64 .kept, c .before .before .before .before .before .before .replace-i64 .kept), omega (arith, r .new-fits, given-good _ _ _ (now (a .flags)) (c .before .before .before .before .before .before .before .before .before .before .before .before .before .before .before .before .before .before .before .before .pre .1) .even, c .before .before .before .before .before .before .before .before .before .before .before .before .before .load-i64 .kept, c .before .before .before .before .before .before .replace-i64 .kept)), g))
+    let s = c .before .before .before .before .before .before .before .before .before .before .before .before .before .before .before .before .before .before .before .before in
+    let replace-i64 = c .before .before .before .before .before .before .replace-i64 in
+    let end-in = c .before .before .before .before .before .before .before .end-in in
+    let load-i64 = c .before .before .before .before .before .before .before .before .before .before .before .before .before .load-i64 in
+    let a = s .args in
+    let r = s .pre .0 in
+    let g = optional-good delta deltaTrace (λ x. refl) (pos 0) (now (a .new)) (now (a .new-present)) (now (a .values)) (now (a .present)) r (s .pre .1)
+    (load-i64 .ensures) (end-in .ensures) (replace-i64 .ensures) in
+    (r .located .row, ((omega (arith, r .new-fits, load-i64 .kept, replace-i64 .kept), omega (arith, r .new-fits, given-good _ _ _ (now (a .new-present)) (s .pre .1) .even, load-i64 .kept, replace-i64 .kept)), g))
 
 same-length : tie.Need-same-length
 same-length c = search needs
@@ -43,9 +49,13 @@ same-length-3 c = search needs
 
 returns : tie.Need-returns
 returns c =
-    let a = c .before .before .before .before .before .before .before .before .before .before .before .before .before .before .before .before .before .before .before .before .before .before .before .args in
-    optional-done delta deltaTrace (λ x. refl) (pos 0) (now (a .new)) (now (a .flags)) (now (a .values)) (now (a .present)) (c .before .before .before .before .before .before .before .before .before .before .before .before .before .before .before .before .before .before .before .before .before .before .before .pre .0) (c .before .before .before .before .before .before .before .before .before .before .before .before .before .before .before .before .before .before .before .before .before .before .before .pre .1)
-    (c .before .before .before .before .before .before .before .before .before .before .before .before .before .before .before .before .load-i64 .ensures) (c .before .before .before .before .before .before .before .before .before .before .end-in .ensures) (c .before .before .before .before .before .before .before .before .before .replace-i64 .ensures) (c .before .before .finish-i64 .ensures)
+    let s = c .before .before .before .before .before .before .before .before .before .before .before .before .before .before .before .before .before .before .before .before .before .before .before in
+    let replace-i64 = c .before .before .before .before .before .before .before .before .before .replace-i64 in
+    let end-in = c .before .before .before .before .before .before .before .before .before .before .end-in in
+    let load-i64 = c .before .before .before .before .before .before .before .before .before .before .before .before .before .before .before .before .load-i64 in
+    let a = s .args in
+    optional-done delta deltaTrace (λ x. refl) (pos 0) (now (a .new)) (now (a .new-present)) (now (a .values)) (now (a .present)) (s .pre .0) (s .pre .1)
+    (load-i64 .ensures) (end-in .ensures) (replace-i64 .ensures) (c .before .before .finish-i64 .ensures)
 
 pub edit-i64-spec : {M : Type 1} → statement M
 edit-i64-spec =

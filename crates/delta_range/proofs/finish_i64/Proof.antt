@@ -6,27 +6,29 @@ use borrow.Author.Needs.{needs}
 use Rattle.delta_range.proofs.finish_i64.Statement.{statement}
 use Rattle.delta_range.proofs.finish_i64.Tie as tie
 
-slice-aggregate-write-i64 : tie.Need-slice-aggregate-write-i64
-slice-aggregate-write-i64 c = sym (length-take-le (c .before .before .before .before .args .len) (now (c .before .before .before .before .args .values)) (c .before .before .before .before .pre .1 .0 .0))
+slice-aggregate-write-block-i64 : tie.Need-slice-aggregate-write-block-i64
+slice-aggregate-write-block-i64 c = sym (length-take-le (c .before .before .before .before .args .len) (now (c .before .before .before .before .args .values)) (c .before .before .before .before .pre .1 .0 .0))
 
-slice-aggregate-write-i64-2 : tie.Need-slice-aggregate-write-i64-2
-slice-aggregate-write-i64-2 c = sym (length-take-le (c .before .before .before .before .before .args .len) (now (c .before .before .before .before .before .args .present)) (c .before .before .before .before .before .pre .1 .0 .1))
+slice-aggregate-write-block-i64-2 : tie.Need-slice-aggregate-write-block-i64-2
+slice-aggregate-write-block-i64-2 c =
+    let s = c .before .before .before .before .before in
+    sym (length-take-le (s .args .len) (now (s .args .present)) (s .pre .1 .0 .1))
 
-write-i64-requires : tie.Need-write-i64-requires
-write-i64-requires c κs = (c .before .before .before .before .before .before .pre .0, c .before .before .before .before .before .before .pre .1 .1)
+write-block-i64-requires : tie.Need-write-block-i64-requires
+write-block-i64-requires c κs = (c .before .before .before .before .before .before .pre .0, c .before .before .before .before .before .before .pre .1 .1)
 
 same-length : tie.Need-same-length
 same-length c = search needs
 
 returns : tie.Need-returns
-returns c = c .before .before .write-i64 .ensures
+returns c = c .before .before .write-block-i64 .ensures
 
 pub finish-i64-spec : {M : Type 1} → statement M
 finish-i64-spec =
     tie.close
     (tie.spec
-    slice-aggregate-write-i64
-    slice-aggregate-write-i64-2
-    write-i64-requires
+    slice-aggregate-write-block-i64
+    slice-aggregate-write-block-i64-2
+    write-block-i64-requires
     same-length
     returns)

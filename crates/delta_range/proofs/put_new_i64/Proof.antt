@@ -56,16 +56,18 @@ loop-less c = search needs
 
 loop-again : tie.Need-loop-again Inv-loop μ-loop
 loop-again c =
-    let a = c .before .before .before .before .before .before .args in
-    let l = held-length (pos 0) (now (a .new)) (now (a .flags)) (c .before .before .before .before .before .before .pre .1) in
+    let s = c .before .before .before .before .before .before in
+    let loop = c .before .before .before .before .loop in
+    let a = s .args in
+    let l = held-length (pos 0) (now (a .new)) (now (a .new-present)) (s .pre .1) in
     let n = now (a .new) in
-    let f = now (a .flags) in
-    let i = c .before .before .before .before .loop .i in
+    let f = now (a .new-present) in
+    let i = loop .i in
     let g : SFits w64 (c .held-i64 .result) = search needs in
     let v =
     same (c .held-i64 .result) g ∙ c .held-i64 .ensures ∙ ap (λ (x : ℤ). slotIn (pos 0) (given (getD f i 0) x)) (same _ (sfits-of (c .before .before .held-i64-arg .given)))
-    ∙ held-at (pos 0) n f i (c .before .before .before .before .before .before .pre .1) (omega arith) in
-    (search needs, put-turn (pos 0) (c .before .before .before .before .loop .inv .1) (omega (arith, c .before .before .before .before .before .before .pre)) (omega (arith, l)) v)
+    ∙ held-at (pos 0) n f i (s .pre .1) (omega arith) in
+    (search needs, put-turn (pos 0) (loop .inv .1) (omega (arith, s .pre)) (omega (arith, l)) v)
 
 same-length : tie.Need-same-length Inv-loop μ-loop
 same-length c = search needs

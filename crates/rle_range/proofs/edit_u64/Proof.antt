@@ -21,17 +21,23 @@ end-in-requires c κs = search needs
 
 replace-u64-requires : tie.Need-replace-u64-requires
 replace-u64-requires c κs =
-    let a = c .before .before .before .before .before .before .before .before .before .before .before .before .before .before .before .before .args in
-    optional-fits integer (trace u64E) (λ x. refl) 0 (now (a .new)) (now (a .flags)) (now (a .values)) (now (a .present)) (c .before .before .before .before .before .before .before .before .before .before .before .before .before .before .before .before .pre .0) (c .before .before .before .before .before .before .before .before .before .before .before .before .before .before .before .before .pre .1)
-    (c .before .before .before .before .before .before .before .load-u64 .ensures) (c .end-in .ensures) (c .before .before .before .before .before .before .before .load-u64 .kept .1 .1 .1 .0) (c .before .before .before .before .before .before .before .load-u64 .kept .1 .1 .1 .1 .0)
+    let s = c .before .before .before .before .before .before .before .before .before .before .before .before .before .before .before .before in
+    let load-u64 = c .before .before .before .before .before .before .before .load-u64 in
+    let a = s .args in
+    optional-fits integer (trace u64E) (λ x. refl) 0 (now (a .new)) (now (a .new-present)) (now (a .values)) (now (a .present)) (s .pre .0) (s .pre .1)
+    (load-u64 .ensures) (c .end-in .ensures) (load-u64 .kept .1 .1 .1 .0) (load-u64 .kept .1 .1 .1 .1 .0)
 
 finish-u64-requires : tie.Need-finish-u64-requires
 finish-u64-requires c κs =
-    let a = c .before .before .before .before .before .before .before .before .before .before .before .before .before .before .before .before .before .before .before .before .before .before .before .before .args in
-    let r = c .before .before .before .before .before .before .before .before .before .before .before .before .before .before .before .before .before .before .before .before .before .before .before .before .pre .0 in
-    let g = optional-good integer (trace u64E) (λ x. refl) 0 (now (a .new)) (now (a .flags)) (now (a .values)) (now (a .present)) r (c .before .before .before .before .before .before .before .before .before .before .before .before .before .before .before .before .before .before .before .before .before .before .before .before .pre .1)
-    (c .before .before .before .before .before .before .before .before .before .before .before .before .before .before .before .load-u64 .ensures) (c .before .before .before .before .before .before .before .before .end-in .ensures) (c .before .before .before .before .before .before .before .replace-u64 .ensures) in
-    (r .located .row, ((omega (arith, r .new-fits, c .before .before .before .before .before .before .before .before .before .before .before .before .before .before .before .load-u64 .kept, c .before .before .before .before .before .before .before .replace-u64 .kept), omega (arith, r .new-fits, given-good _ _ _ (now (a .flags)) (c .before .before .before .before .before .before .before .before .before .before .before .before .before .before .before .before .before .before .before .before .before .before .before .before .pre .1) .even, c .before .before .before .before .before .before .before .before .before .before .before .before .before .before .before .load-u64 .kept, c .before .before .before .before .before .before .before .replace-u64 .kept)), g))
+    let s = c .before .before .before .before .before .before .before .before .before .before .before .before .before .before .before .before .before .before .before .before .before .before .before .before in
+    let replace-u64 = c .before .before .before .before .before .before .before .replace-u64 in
+    let end-in = c .before .before .before .before .before .before .before .before .end-in in
+    let load-u64 = c .before .before .before .before .before .before .before .before .before .before .before .before .before .before .before .load-u64 in
+    let a = s .args in
+    let r = s .pre .0 in
+    let g = optional-good integer (trace u64E) (λ x. refl) 0 (now (a .new)) (now (a .new-present)) (now (a .values)) (now (a .present)) r (s .pre .1)
+    (load-u64 .ensures) (end-in .ensures) (replace-u64 .ensures) in
+    (r .located .row, ((omega (arith, r .new-fits, load-u64 .kept, replace-u64 .kept), omega (arith, r .new-fits, given-good _ _ _ (now (a .new-present)) (s .pre .1) .even, load-u64 .kept, replace-u64 .kept)), g))
 
 same-length : tie.Need-same-length
 same-length c = search needs
@@ -44,9 +50,13 @@ same-length-3 c = search needs
 
 returns : tie.Need-returns
 returns c =
-    let a = c .before .before .before .before .before .before .before .before .before .before .before .before .before .before .before .before .before .before .before .before .before .before .before .before .before .before .before .args in
-    optional-done integer (trace u64E) (λ x. refl) 0 (now (a .new)) (now (a .flags)) (now (a .values)) (now (a .present)) (c .before .before .before .before .before .before .before .before .before .before .before .before .before .before .before .before .before .before .before .before .before .before .before .before .before .before .before .pre .0) (c .before .before .before .before .before .before .before .before .before .before .before .before .before .before .before .before .before .before .before .before .before .before .before .before .before .before .before .pre .1)
-    (c .before .before .before .before .before .before .before .before .before .before .before .before .before .before .before .before .before .before .load-u64 .ensures) (c .before .before .before .before .before .before .before .before .before .before .before .end-in .ensures) (c .before .before .before .before .before .before .before .before .before .before .replace-u64 .ensures) (c .before .before .finish-u64 .ensures)
+    let s = c .before .before .before .before .before .before .before .before .before .before .before .before .before .before .before .before .before .before .before .before .before .before .before .before .before .before .before in
+    let replace-u64 = c .before .before .before .before .before .before .before .before .before .before .replace-u64 in
+    let end-in = c .before .before .before .before .before .before .before .before .before .before .before .end-in in
+    let load-u64 = c .before .before .before .before .before .before .before .before .before .before .before .before .before .before .before .before .before .before .load-u64 in
+    let a = s .args in
+    optional-done integer (trace u64E) (λ x. refl) 0 (now (a .new)) (now (a .new-present)) (now (a .values)) (now (a .present)) (s .pre .0) (s .pre .1)
+    (load-u64 .ensures) (end-in .ensures) (replace-u64 .ensures) (c .before .before .finish-u64 .ensures)
 
 pub edit-u64-spec : {M : Type 1} → statement M
 edit-u64-spec =

@@ -35,7 +35,9 @@ held-u64-requires : tie.Need-held-u64-requires Inv-loop μ-loop
 held-u64-requires c κs = search needs
 
 add-values : tie.Need-add-values Inv-loop μ-loop
-add-values c = omega (arith, c .before .before .before .before .before .before .before .before .pre, c .before .before .before .before .before .before .before .before .good)
+add-values c =
+    let s = c .before .before .before .before .before .before .before .before in
+    omega (arith, s .pre, s .good)
 
 mul-values : tie.Need-mul-values Inv-loop μ-loop
 mul-values c = search needs
@@ -51,9 +53,11 @@ loop-less c = search needs
 
 loop-again : tie.Need-loop-again Inv-loop μ-loop
 loop-again c =
-    let a = c .before .before .before .before .before .before .before .before .args in
-    let l = held-length 0 (now (a .new)) (now (a .flags)) (c .before .before .before .before .before .before .before .before .pre .1) in
-    (search needs, put-turn 0 (c .before .before .before .before .loop .inv .1) (omega (arith, c .before .before .before .before .before .before .before .before .pre)) (omega (arith, l)) (c .held-u64 .ensures ∙ held-at 0 (now (a .new)) (now (a .flags)) (c .before .before .before .before .loop .i) (c .before .before .before .before .before .before .before .before .pre .1) (omega arith)))
+    let s = c .before .before .before .before .before .before .before .before in
+    let loop = c .before .before .before .before .loop in
+    let a = s .args in
+    let l = held-length 0 (now (a .new)) (now (a .new-present)) (s .pre .1) in
+    (search needs, put-turn 0 (loop .inv .1) (omega (arith, s .pre)) (omega (arith, l)) (c .held-u64 .ensures ∙ held-at 0 (now (a .new)) (now (a .new-present)) (loop .i) (s .pre .1) (omega arith)))
 
 same-length : tie.Need-same-length Inv-loop μ-loop
 same-length c = search needs

@@ -17,8 +17,10 @@ splice-u8-requires c κs = search needs
 
 put-new-u64-requires : tie.Need-put-new-u64-requires
 put-new-u64-requires c κs =
-    let f = c .before .before .before .before .before .before .before .before .before .before .before .before .before .pre in
-    (omega (arith, f .new-fits, c .before .before .before .before .before .before .before .splice-u64 .kept), f .paired)
+    let s = c .before .before .before .before .before .before .before .before .before .before .before .before .before in
+    let splice-u64 = c .before .before .before .before .before .before .before .splice-u64 in
+    let f = s .pre in
+    (omega (arith, f .new-fits, splice-u64 .kept), f .paired)
 
 same-length : tie.Need-same-length
 same-length c = search needs
@@ -28,17 +30,20 @@ same-length-2 c = search needs
 
 returns : tie.Need-returns
 returns c =
-    let a = c .before .before .before .before .before .before .before .before .before .before .before .before .before .before .before .before .args in
-    let f = c .before .before .before .before .before .before .before .before .before .before .before .before .before .before .before .before .pre in
+    let s = c .before .before .before .before .before .before .before .before .before .before .before .before .before .before .before .before in
+    let splice-u8 = c .before .before .before .before .before .before .splice-u8 in
+    let splice-u64 = c .before .before .before .before .before .before .before .before .before .before .splice-u64 in
+    let a = s .args in
+    let f = s .pre in
     let n = now (a .new) in
-    let v = splice-fits 0 (now (a .values)) (a .old) (a .start) (a .end) n (f .ordered) (f .within) (f .old-fits) (f .new-fits) (c .before .before .before .before .before .before .before .before .before .before .splice-u64 .ensures .1) in
+    let v = splice-fits 0 (now (a .values)) (a .old) (a .start) (a .end) n (f .ordered) (f .within) (f .old-fits) (f .new-fits) (splice-u64 .ensures .1) in
     record {
       values =
           splice-put 0 (now (a .values)) (a .old) (a .start) (a .end) n (f .ordered) (f .within) (f .old-fits) (f .new-fits)
-          (map (slotIn 0) (slotList n (now (a .flags)))) (held-length 0 n (now (a .flags)) (f .paired)) v (c .before .before .put-new-u64 .ensures);
+          (map (slotIn 0) (slotList n (now (a .new-present)))) (held-length 0 n (now (a .new-present)) (f .paired)) v (c .before .before .put-new-u64 .ensures);
       presence =
-          splice-fits 0 (now (a .present)) (a .old) (a .start) (a .end) (now (a .flags)) (f .ordered) (f .within) (omega (arith, f .old-fits, f .even))
-          (omega (arith, f .new-fits, f .even, f .paired)) (c .before .before .before .before .before .before .splice-u8 .ensures .1);
+          splice-fits 0 (now (a .present)) (a .old) (a .start) (a .end) (now (a .new-present)) (f .ordered) (f .within) (omega (arith, f .old-fits, f .even))
+          (omega (arith, f .new-fits, f .even, f .paired)) (splice-u8 .ensures .1);
     }
 
 pub replace-u64-spec : {M : Type 1} → statement M

@@ -16,8 +16,8 @@ sub-n c = search needs
 move-i64-requires : tie.Need-move-i64-requires
 move-i64-requires c κs = search needs
 
-put-i64-requires : tie.Need-put-i64-requires
-put-i64-requires c κs = search needs
+copy-i64-requires : tie.Need-copy-i64-requires
+copy-i64-requires c κs = search needs
 
 add-len : tie.Need-add-len
 add-len c = search needs
@@ -33,7 +33,7 @@ returns c =
     let f = c .before .before .before .before .before .before .before .before .before .before in
     let a = f .args in
     let m = c .before .before .before .before .before .before .before .before .move-i64 .ensures in
-    let p = c .before .before .before .before .before .put-i64 .ensures in
+    let p = c .before .before .before .before .before .copy-i64 .ensures in
     (refl, placed-cleared (pos 0) (now (a .s)) (a .old) (a .start) (a .end) (now (a .new)) (f .pre) m p (c .before .before .before .if1 .taken) (c .before .clear-i64 .ensures))
 
 same-length-2 : tie.Need-same-length-2
@@ -44,7 +44,7 @@ returns-2 c =
     let f = c .before .before .before .before .before .before .before in
     let a = f .args in
     let m = c .before .before .before .before .before .move-i64 .ensures in
-    let p = c .before .before .put-i64 .ensures in
+    let p = c .before .before .copy-i64 .ensures in
     (refl, placed (pos 0) (now (a .s)) (a .old) (a .start) (a .end) (now (a .new)) (f .pre) m p (c .if1 .left))
 
 pub place-i64-spec : {M : Type 1} → statement M
@@ -54,7 +54,7 @@ place-i64-spec =
     add-to
     sub-n
     move-i64-requires
-    put-i64-requires
+    copy-i64-requires
     add-len
     clear-i64-requires
     same-length

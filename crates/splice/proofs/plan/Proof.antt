@@ -38,25 +38,27 @@ enum-known-n-2 c = search needs
 returns : tie.Need-returns
 returns c =
     let a = c .before .before .before .before .before .before .before .before .before .before .args in
-    let g = givenOptional (a .values) (a .present) (a .new) (now (a .flags)) in
+    let g = givenOptional (a .values) (a .present) (a .new) (now (a .new-present)) in
     let e = sym (c .before .before .before .before .before .at .given .1) ∙ c .before .before .before .before .before .before .before .row-at .ensures in
+    let j = via answerOf (c .before .before .before .judge-new .ensures) (c .before .enum-told .given .1) in
     c .plan-column .ensures
-    ∙ sym (ap (onGiven (a .low) (now (a .block)) _ _ (a .start) (a .end) (a .new) (a .values)) (via answerOf (c .before .before .before .judge-new .ensures) (c .before .enum-told .given .1)))
-    ∙ ap (onRow (a .low) (now (a .block)) (a .start) (a .end) g (a .new) (a .values)) e
+    ∙ sym (ap (onGiven (a .kind) (now (a .block)) _ _ (a .start) (a .end) (a .new) (a .values)) j)
+    ∙ ap (onRow (a .kind) (now (a .block)) (a .start) (a .end) g (a .new) (a .values)) e
 
 returns-2 : tie.Need-returns-2
 returns-2 c =
     let a = c .before .before .before .before .before .before .before .before .before .before .args in
-    let g = givenOptional (a .values) (a .present) (a .new) (now (a .flags)) in
+    let g = givenOptional (a .values) (a .present) (a .new) (now (a .new-present)) in
     let e = sym (c .before .before .before .before .before .at .given .1) ∙ c .before .before .before .before .before .before .before .row-at .ensures in
-    sym (ap (onGiven (a .low) (now (a .block)) _ _ (a .start) (a .end) (a .new) (a .values)) (via answerOf (c .before .before .before .judge-new .ensures) (c .before .n .given .1)))
-    ∙ ap (onRow (a .low) (now (a .block)) (a .start) (a .end) g (a .new) (a .values)) e
+    let j = via answerOf (c .before .before .before .judge-new .ensures) (c .before .n .given .1) in
+    sym (ap (onGiven (a .kind) (now (a .block)) _ _ (a .start) (a .end) (a .new) (a .values)) j)
+    ∙ ap (onRow (a .kind) (now (a .block)) (a .start) (a .end) g (a .new) (a .values)) e
 
 returns-3 : tie.Need-returns-3
 returns-3 c =
     let a = c .before .before .before .before .before .before .args in
-    let g = givenOptional (a .values) (a .present) (a .new) (now (a .flags)) in
-    ap (onRow (a .low) (now (a .block)) (a .start) (a .end) g (a .new) (a .values)) (sym (c .before .n2 .given .1) ∙ c .before .before .before .row-at .ensures)
+    let g = givenOptional (a .values) (a .present) (a .new) (now (a .new-present)) in
+    ap (onRow (a .kind) (now (a .block)) (a .start) (a .end) g (a .new) (a .values)) (sym (c .before .n2 .given .1) ∙ c .before .before .before .row-at .ensures)
 
 pub plan-spec : {M : Type 1} → statement M
 plan-spec =

@@ -2,14 +2,14 @@
 use borrow.Author.Needs.{needs}
 use native.Mathlib.Omega.{arith}
 use Rattle.column_specification.specs.TypeNumber.{typeNumber}
-use Rattle.column_specification.proofs.Laws.{number-below, made, refused}
+use Rattle.column_specification.proofs.Laws.{number-below, pack-made, pack-refused}
 use Rattle.column_specification.proofs.ColumnSpec.new.Statement.{statement}
 use Rattle.column_specification.proofs.ColumnSpec.new.Tie as tie
 
 returns : tie.Need-returns
 returns c =
     let given = c .before .args in
-    refused (given .id) (typeNumber (given .col-type)) (given .deflate) (omega arith)
+    pack-refused (given .id) (typeNumber (given .col-type)) (given .deflate) (omega arith)
 
 mul-raw : tie.Need-mul-raw
 mul-raw c = search needs
@@ -30,13 +30,13 @@ returns-2 : tie.Need-returns-2
 returns-2 c =
     let given = c .before .before .before .args in
     let small = number-below (given .col-type) in
-    made (given .id) (typeNumber (given .col-type)) (given .deflate) (omega arith) (rw (c .if2 .taken) (omega arith))
+    pack-made (given .id) (typeNumber (given .col-type)) (given .deflate) (omega arith) (rw (c .if2 .taken) (omega arith))
 
 returns-3 : tie.Need-returns-3
 returns-3 c =
     let given = c .before .before .before .args in
     let small = number-below (given .col-type) in
-    made (given .id) (typeNumber (given .col-type)) (given .deflate) (omega arith) (rw (c .if2 .left) (omega arith))
+    pack-made (given .id) (typeNumber (given .col-type)) (given .deflate) (omega arith) (rw (c .if2 .left) (omega arith))
 
 pub new-spec : {M : Type 1} → statement M
 new-spec = tie.close (tie.spec returns mul-raw as-u8-requires cast-raw add-raw add-raw-2 returns-2 returns-3)

@@ -1,14 +1,13 @@
--- `slots_i64::put_i64` meets its contract: a turn stores one more of the new elements. Assumes nothing.
-use borrow.Author.Needs.{needs, sfits-of}
+-- `slots_u8::copy_u8` meets its contract: a turn stores one more of the new elements. Assumes nothing.
+use borrow.Author.Needs.{needs}
 use Prim.Native.Nat.{_-_, _≤_, zero-le}
+use mathlib.Core.Path.{refl}
 use native.Mathlib.Omega.{arith}
 use denote.Ref.{now}
-use lib.IntN.{pos}
 use lib.ListN.{length}
-use Rattle.leb128.proofs.Twos.{same}
 use Rattle.slots.proofs.Moves.{Stored, stored-none, stored-all, put-turn}
-use Rattle.slots_i64.proofs.put_i64.Statement.{statement}
-use Rattle.slots_i64.proofs.put_i64.Tie as tie
+use Rattle.slots_u8.proofs.copy_u8.Statement.{statement}
+use Rattle.slots_u8.proofs.copy_u8.Tie as tie
 
 abbrev Inv-loop : tie.InvT-loop
 Inv-loop s₀ at new i₀ s i = (i ≤ length new) × Stored s₀ at new i s
@@ -19,20 +18,14 @@ abbrev μ-loop : tie.MeasureT-loop
 loop-holds : tie.Need-loop-holds Inv-loop μ-loop
 loop-holds c = (zero-le, stored-none _ _ _)
 
-mul-s : tie.Need-mul-s Inv-loop μ-loop
-mul-s c = search needs
+shared-slice-read-s : tie.Need-shared-slice-read-s Inv-loop μ-loop
+shared-slice-read-s c = search needs
 
-shared-slice-copy-out-s : tie.Need-shared-slice-copy-out-s Inv-loop μ-loop
-shared-slice-copy-out-s c = search needs
+add-s : tie.Need-add-s Inv-loop μ-loop
+add-s c = search needs
 
-add-t9 : tie.Need-add-t9 Inv-loop μ-loop
-add-t9 c = search needs
-
-mul-t10 : tie.Need-mul-t10 Inv-loop μ-loop
-mul-t10 c = search needs
-
-slice-set-from-s : tie.Need-slice-set-from-s Inv-loop μ-loop
-slice-set-from-s c = search needs
+slice-write-s : tie.Need-slice-write-s Inv-loop μ-loop
+slice-write-s c = search needs
 
 add-i : tie.Need-add-i Inv-loop μ-loop
 add-i c = search needs
@@ -41,7 +34,7 @@ loop-less : tie.Need-loop-less Inv-loop μ-loop
 loop-less c = search needs
 
 loop-again : tie.Need-loop-again Inv-loop μ-loop
-loop-again c = (search needs, put-turn (pos 0) (c .before .before .loop .inv .1) (omega arith) (omega arith) (same _ (sfits-of (c .s .given))))
+loop-again c = (search needs, put-turn 0 (c .before .before .loop .inv .1) (omega arith) (omega arith) refl)
 
 same-length : tie.Need-same-length Inv-loop μ-loop
 same-length c = search needs
@@ -49,18 +42,16 @@ same-length c = search needs
 returns : tie.Need-returns Inv-loop μ-loop
 returns c = stored-all (length (now (c .before .before .args .new))) (c .before .loop .inv .1) (omega arith)
 
-pub put-i64-spec : {M : Type 1} → statement M
-put-i64-spec =
+pub copy-u8-spec : {M : Type 1} → statement M
+copy-u8-spec =
     tie.close
     (tie.spec
     Inv-loop
     μ-loop
     loop-holds
-    mul-s
-    shared-slice-copy-out-s
-    add-t9
-    mul-t10
-    slice-set-from-s
+    shared-slice-read-s
+    add-s
+    slice-write-s
     add-i
     loop-less
     loop-again

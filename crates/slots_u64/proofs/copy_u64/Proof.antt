@@ -1,4 +1,4 @@
--- `slots_u64::put_u64` meets its contract: a turn stores one more of the new elements. Assumes nothing.
+-- `slots_u64::copy_u64` meets its contract: a turn stores one more of the new elements. Assumes nothing.
 use borrow.Author.Needs.{needs}
 use Prim.Native.Nat.{_-_, _≤_, zero-le}
 use mathlib.Core.Path.{refl}
@@ -6,8 +6,8 @@ use native.Mathlib.Omega.{arith}
 use denote.Ref.{now}
 use lib.ListN.{length}
 use Rattle.slots.proofs.Moves.{Stored, stored-none, stored-all, put-turn}
-use Rattle.slots_u64.proofs.put_u64.Statement.{statement}
-use Rattle.slots_u64.proofs.put_u64.Tie as tie
+use Rattle.slots_u64.proofs.copy_u64.Statement.{statement}
+use Rattle.slots_u64.proofs.copy_u64.Tie as tie
 
 abbrev Inv-loop : tie.InvT-loop
 Inv-loop s₀ at new i₀ s i = (i ≤ length new) × Stored s₀ at new i s
@@ -48,8 +48,8 @@ same-length c = search needs
 returns : tie.Need-returns Inv-loop μ-loop
 returns c = stored-all (length (now (c .before .before .args .new))) (c .before .loop .inv .1) (omega arith)
 
-pub put-u64-spec : {M : Type 1} → statement M
-put-u64-spec =
+pub copy-u64-spec : {M : Type 1} → statement M
+copy-u64-spec =
     tie.close
     (tie.spec
     Inv-loop
