@@ -17,8 +17,9 @@ ghost use Rattle.delta_decoder.specs.Difference.{i64E};
 ghost use Rattle.delta_decoder.specs.Sofar.{sofar, summing, deltaRun};
 ghost use Rattle.delta_decoder.specs.Sums.{deltaTrace};
 
-mod sums;
+pub mod sums;
 
+use crate::sums::HALF;
 use crate::sums::Sum;
 use crate::sums::add;
 use crate::sums::add_times;
@@ -26,8 +27,6 @@ use crate::sums::sum_of;
 use encoding::Answer;
 use encoding::Head;
 use leb128::ParsedI64;
-
-const HALF: u64 = 9223372036854775808;
 
 // Behind a run: the next position, how many readings came so far, and their sum; or the run's fault.
 enum Step {

@@ -6,7 +6,8 @@ use leb128::magnitude;
 
 const ALL: u64 = 18446744073709551615;
 
-const HALF: u64 = 9223372036854775808;
+// The sum 0.
+pub const HALF: u64 = 9223372036854775808;
 
 pub(crate) enum Sum {
     Is(u64),
@@ -14,7 +15,7 @@ pub(crate) enum Sum {
 }
 
 // The sum that is kept as n.
-pub(crate) fn sum_of(n: u64) -> i64
+pub fn sum_of(n: u64) -> i64
     ensures { λ r. ⌜ r ≡ sumOf n ⌝ }
 {
     if n < HALF {

@@ -16,12 +16,11 @@ ghost use Rattle.delta_encoder.specs.Ahead.{diffs, lastBefore, Narrow};
 ghost use Rattle.delta_encoder.specs.Cases.{widthOf};
 ghost use Rattle.delta_decoder.specs.Difference.{sameZ, holds, i64E};
 ghost use Rattle.delta_encoder.specs.Differences.{differences, deltaBytes, wideAt, deltaJudged};
+use delta_decoder::sums::HALF;
 use encoding::Answer;
 use encoding::StretchEnd;
 use leb128::magnitude;
 use leb128_writer::Written;
-
-const HALF: u64 = 9223372036854775808;
 
 // What the first difference is taken from.
 const ORIGIN: i64 = 0;

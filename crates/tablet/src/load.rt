@@ -1,10 +1,10 @@
 // A column's readings, of every kind as the numbers by which `decimal` keeps them.
 ghost use mathlib.Core.Path.{_≡_};
-ghost use Rattle.delta_decoder.specs.Sofar.{sumOf};
 ghost use Rattle.tablet.specs.Kept.{keptOf};
 use crate::kinds::Kind;
 use crate::rooms;
 use decimal::HALF;
+use delta_decoder::sums::sum_of;
 use encoding::Answer;
 use leb128::magnitude;
 
@@ -29,16 +29,6 @@ fn kept(x: i64) -> u64
     HALF + m
 }
 
-// The signed number that is kept as n.
-fn meant(n: u64) -> i64
-    ensures { λ r. ⌜ r ≡ sumOf n ⌝ }
-{
-    if n < HALF {
-        return !((HALF - 1 - n) as i64);
-    }
-    (n - HALF) as i64
-}
-
 fn keep_all(signed: &[i64], values: &mut [u64]) {
     if signed.len() != values.len() {
         return;
@@ -57,7 +47,7 @@ pub fn mean_all(values: &[u64], signed: &mut [i64]) {
     }
     let mut i = 0;
     while i < values.len() {
-        signed[i] = meant(values[i]);
+        signed[i] = sum_of(values[i]);
         i += 1;
     }
 }

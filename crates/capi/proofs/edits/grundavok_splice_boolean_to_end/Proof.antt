@@ -3,8 +3,8 @@ use borrow.Author.Needs.{needs}
 use Rattle.capi.proofs.edits.grundavok_splice_boolean_to_end.Statement.{statement}
 use Rattle.capi.proofs.edits.grundavok_splice_boolean_to_end.Tie as tie
 
-splice-boolean-to-end-requires : tie.Need-splice-boolean-to-end-requires
-splice-boolean-to-end-requires c κs = search needs
+splice-boolean-requires : tie.Need-splice-boolean-requires
+splice-boolean-requires c κs = search needs
 
 spliced-requires : tie.Need-spliced-requires
 spliced-requires c κs = search needs
@@ -16,8 +16,8 @@ same-length-2 : tie.Need-same-length-2
 same-length-2 c = search needs
 
 returns : tie.Need-returns
-returns c = record { told = _; form = c .spliced .ensures; holds = c .before .before .before .before .before .splice-boolean-to-end .ensures }
+returns c = record { told = _; form = c .spliced .ensures; holds = c .before .before .before .before .before .splice-boolean .ensures }
 
 pub grundavok-splice-boolean-to-end-spec : {M : Type 1} → statement M
 grundavok-splice-boolean-to-end-spec =
-    tie.close (tie.spec splice-boolean-to-end-requires spliced-requires same-length same-length-2 returns)
+    tie.close (tie.spec splice-boolean-requires spliced-requires same-length same-length-2 returns)

@@ -18,14 +18,14 @@ returns c = search needs
 loop-holds : tie.Need-loop-holds Inv-loop μ-loop
 loop-holds c = search needs
 
-mul-meant : tie.Need-mul-meant Inv-loop μ-loop
-mul-meant c = search needs
+mul-sum-of : tie.Need-mul-sum-of Inv-loop μ-loop
+mul-sum-of c = search needs
 
-shared-slice-read-meant : tie.Need-shared-slice-read-meant Inv-loop μ-loop
-shared-slice-read-meant c = search needs
+shared-slice-read-sum-of : tie.Need-shared-slice-read-sum-of Inv-loop μ-loop
+shared-slice-read-sum-of c = search needs
 
-meant-requires : tie.Need-meant-requires Inv-loop μ-loop
-meant-requires c κs = search needs
+sum-of-requires : tie.Need-sum-of-requires Inv-loop μ-loop
+sum-of-requires c κs = search needs
 
 mul-t12 : tie.Need-mul-t12 Inv-loop μ-loop
 mul-t12 c = search needs
@@ -56,9 +56,9 @@ mean-all-spec =
     μ-loop
     returns
     loop-holds
-    mul-meant
-    shared-slice-read-meant
-    meant-requires
+    mul-sum-of
+    shared-slice-read-sum-of
+    sum-of-requires
     mul-t12
     slice-set-from-signed
     add-i
