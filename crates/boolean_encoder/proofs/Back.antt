@@ -113,7 +113,8 @@ unfolding anyFlag
 zeros-all [] e = refl
 zeros-all (b ∷ xs) e = go (eqb b 0) refl e (λ k. zeros-all xs k)
   where
-    go : (t : Bool) → eqb b 0 ≡ t → cond t (anyFlag xs) true ≡ false → (anyFlag xs ≡ false → xs ≡ replicate (length xs) 0) → b ∷ xs ≡ 0 ∷ replicate (length xs) 0
+    go : (t : Bool) → eqb b 0 ≡ t → cond t (anyFlag xs) true ≡ false → (anyFlag xs ≡ false → xs ≡ replicate (length xs) 0)
+        → b ∷ xs ≡ 0 ∷ replicate (length xs) 0
     go true h k r = ap (λ (a : ℕ). a ∷ xs) (eqb-true b 0 h) ∙ ap (λ (l : List ℕ). 0 ∷ l) (r k)
     go false h k r = let z : _≡_ {A = ℕ} 0 1 = cc in absurd (omega arith)
 

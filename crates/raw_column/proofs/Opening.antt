@@ -1,18 +1,18 @@
 -- Reading a table: that a refusal's number is never 0, what holds at the head of each loop over rows, one law for each way out, and what
 -- an accepted table says of its block. Assumes nothing.
-use mathlib.Core.Path.{_≡_, refl, sym, ap, subst, _∙_}
+use mathlib.Core.Path.{_≡_, refl, sym, ap, _∙_}
 use mathlib.Core.List.{List, [], _∷_, _++_, append-assoc, append-nil}
 use mathlib.Core.Bool.{Bool, true, false, cond, not}
-use Prim.Native.Nat.{ℕ, zero, suc, _+_, _-_, _≤_, _<_, min, zero-le}
+use Prim.Native.Nat.{ℕ, zero, suc, _+_, _-_, _≤_, _<_, zero-le}
 use native.Mathlib.Numerals.{add-one}
 use native.Mathlib.Omega.{arith}
 use lib.ListN.{length, getD, set, take, drop, replicate, length-set, length-take, take-append-drop, length-append, length-replicate, drop-of-length-le, List·getD-append}
 use lib.Seq.{drop-cons, drop-set-lt, drop-drop, take-suc-set, length-take-le, getD-take, take-at}
-use lib.Dec.{ltb, leb, eqb}
+use lib.Dec.{ltb}
 use borrow.Author.Tests.{ltb-true, ltb-false, lt-ltb, le-ltb}
 use Rattle.leb128.specs.Got.{Got, got, bad}
-use Rattle.leb128.specs.Digits.{Digits, whole, broken, more, digits}
-use Rattle.leb128.specs.Read.{uLarge, uLong, unsigned, narrow, u64At, u32At}
+use Rattle.leb128.specs.Read.{u64At, u32At}
+use Rattle.leb128.proofs.Faults.{u64-fault, u32-fault}
 use Rattle.leb128.proofs.Laws.{u64-next}
 use Rattle.column_specification.specs.Key.{key}
 use Rattle.column_specification.specs.Specification.{compressedOf}
@@ -27,48 +27,6 @@ use Rattle.raw_column.specs.declared.Opened.{Opened}
 pub number-by : (P : Tab → Type 0) (m : Got ℕ) (k : ℕ → ℕ → Tab) → ((v next : ℕ) → m ≡ got v next → P (k v next)) → ((r place : ℕ) → m ≡ bad r place → P (faulty r place)) → P (withNumber m k)
 number-by P (got v next) k g b = g v next refl
 number-by P (bad r place) k g b = b r place refl
-
--- ---- a number's refusal is 1, 2 or 3, and never 0
-abbrev SomeBroken : Digits → Type 0
-SomeBroken (whole low scale prev last count) = Unit {0}
-SomeBroken (broken r) = 0 < r
-
-broken-more : (d : ℕ) (c : Digits) → SomeBroken c → SomeBroken (more d c)
-broken-more d (whole low scale prev last count) h = tt
-broken-more d (broken r) h = h
-
-broken-some : (n p : ℕ) (bs : List ℕ) → SomeBroken (digits n p bs)
-broken-some n p [] = omega arith
-broken-some n p (b ∷ bs) = go (ltb b 128) (eqb n 9) (broken-some (n + 1) b bs)
-  where
-    go : (t u : Bool) → SomeBroken (digits (n + 1) b bs) → SomeBroken (cond t (whole 0 1 p b 1) (cond u (broken 2) (more (b - 128) (digits (n + 1) b bs))))
-    go true u h = tt
-    go false true h = omega arith
-    go false false h = broken-more (b - 128) (digits (n + 1) b bs) h
-
-abbrev SomeBad : Got ℕ → Type 0
-SomeBad (got v next) = Unit {0}
-SomeBad (bad r place) = 0 < r
-
-unsigned-some : (at place : ℕ) (c : Digits) → SomeBroken c → SomeBad (unsigned at place c)
-unsigned-some at place (whole low scale prev last count) h =
-    cond-by SomeBad (uLarge last count) (λ e. omega arith) (λ e. cond-by SomeBad (uLong last count) (λ f. omega arith) (λ f. tt))
-unsigned-some at place (broken r) h = h
-
-u64-some : (s : List ℕ) (at : ℕ) → SomeBad (u64At s at)
-unfolding u64At
-u64-some s at = unsigned-some at (min at (length s)) (digits 0 0 (drop at s)) (broken-some 0 0 (drop at s))
-
-narrow-some : (at : ℕ) (g : Got ℕ) → SomeBad g → SomeBad (narrow at g)
-narrow-some at (got v next) h = cond-by SomeBad (leb v 4294967295) (λ e. tt) (λ e. omega arith)
-narrow-some at (bad r place) h = h
-
-pub u64-fault : (s : List ℕ) (at r place : ℕ) → u64At s at ≡ bad r place → 0 < r
-u64-fault s at r place e = subst SomeBad e (u64-some s at)
-
-pub u32-fault : (s : List ℕ) (at r place : ℕ) → u32At s at ≡ bad r place → 0 < r
-unfolding u32At
-u32-fault s at r place e = subst SomeBad e (narrow-some at (u64At s at) (u64-some s at))
 
 -- ---- lists in 64 places
 less : (n i : ℕ) → i < n → n - i ≡ suc (n - (i + 1))

@@ -41,9 +41,13 @@ pub record Examples : Type 0 where
   pub e7-written : integer .writes (none ∷ none ∷ some 5 ∷ some 5 ∷ some 5 ∷ []) ≡ 0x00 ∷ 0x02 ∷ 0x03 ∷ 0x05 ∷ []
   pub e8 : integer .reads (0x00 ∷ 0x03 ∷ []) ≡ record { readings = none ∷ none ∷ none ∷ []; ending = Ending.sound }
   pub e8-written : integer .writes (none ∷ none ∷ none ∷ []) ≡ []
-  pub e9 : delta .reads (0x7f ∷ 0xd0 ∷ 0x00 ∷ 0x02 ∷ 0x00 ∷ []) ≡ record { readings = some (pos 80) ∷ some (pos 80) ∷ some (pos 80) ∷ []; ending = Ending.sound }
+  pub e9 :
+      delta .reads (0x7f ∷ 0xd0 ∷ 0x00 ∷ 0x02 ∷ 0x00 ∷ [])
+      ≡ record { readings = some (pos 80) ∷ some (pos 80) ∷ some (pos 80) ∷ []; ending = Ending.sound }
   pub e9-written : delta .writes (some (pos 80) ∷ some (pos 80) ∷ some (pos 80) ∷ []) ≡ 0x7f ∷ 0xd0 ∷ 0x00 ∷ 0x02 ∷ 0x00 ∷ []
-  pub e10 : delta .reads (0x7f ∷ 0x05 ∷ 0x00 ∷ 0x01 ∷ 0x7f ∷ 0x01 ∷ []) ≡ record { readings = some (pos 5) ∷ none ∷ some (pos 6) ∷ []; ending = Ending.sound }
+  pub e10 :
+      delta .reads (0x7f ∷ 0x05 ∷ 0x00 ∷ 0x01 ∷ 0x7f ∷ 0x01 ∷ [])
+      ≡ record { readings = some (pos 5) ∷ none ∷ some (pos 6) ∷ []; ending = Ending.sound }
   pub e10-written : delta .writes (some (pos 5) ∷ none ∷ some (pos 6) ∷ []) ≡ 0x7f ∷ 0x05 ∷ 0x00 ∷ 0x01 ∷ 0x7f ∷ 0x01 ∷ []
   pub e11 : boolean .reads (0x00 ∷ 0x01 ∷ 0x02 ∷ []) ≡ record { readings = 1 ∷ 0 ∷ 0 ∷ []; ending = Ending.sound }
   pub e11-written : boolean .writes (1 ∷ 0 ∷ 0 ∷ []) ≡ 0x00 ∷ 0x01 ∷ 0x02 ∷ []
@@ -54,7 +58,10 @@ pub record Examples : Type 0 where
       ≡ accepted 3 (some (pos 80) ∷ some (pos 81) ∷ some (pos 80) ∷ []) (0x01 ∷ 0x13 ∷ 0x05 ∷ 0x7d ∷ 0xd0 ∷ 0x00 ∷ 0x01 ∷ 0x7f ∷ [])
 
 pub examples : Examples
-unfolding u64At i64At u32At encoded walk outcome outcomeOf goneHead begun headAt value repeated single singles opened runAt traceFrom trace rowOf joinNone joinSome stretches allBytes stretchBytes stretchesBytes anyPresent columnBytes heldSum added addUp deltaTrace differences deltaBytes wideAt counted turnAt boolTrace addOne counts countsBytes boolBytes rowsAt inOrder plain sum parse cut joined rowsBytes tableBytes blockBytes newBlock slotList badFlag givenOptional edited
+unfolding u64At i64At u32At encoded walk outcome outcomeOf goneHead begun headAt value repeated single singles opened runAt traceFrom trace
+    rowOf joinNone joinSome stretches allBytes stretchBytes stretchesBytes anyPresent columnBytes heldSum added addUp deltaTrace
+    differences deltaBytes wideAt counted turnAt boolTrace addOne counts countsBytes boolBytes rowsAt inOrder plain sum parse cut
+    joined rowsBytes tableBytes blockBytes newBlock slotList badFlag givenOptional edited
 examples =
     record {
       e1 = refl;
