@@ -152,7 +152,8 @@ counts-later : (flag : ℕ) (xs : List ℕ) → Later (counts flag xs)
 unfolding counts
 counts-later flag [] = tt
 counts-later flag (b ∷ xs) =
-    cond-by Later (eqb b flag) (λ e. later-add (counts flag xs) (counts-later flag xs) .1) (λ e. later-add (counts (1 - flag) xs) (counts-later (1 - flag) xs) .0)
+    cond-by Later (eqb b flag) (λ e. later-add (counts flag xs) (counts-later flag xs) .1)
+    (λ e. later-add (counts (1 - flag) xs) (counts-later (1 - flag) xs) .0)
 
 -- the counts add up to the list's length
 abbrev sum : List ℕ → ℕ
