@@ -13,7 +13,7 @@ use borrow.Author.Tests.{ltb-true, ltb-false, leb-true}
 use Rattle.raw_column.specs.Table.{Tab, tab, faulty, sum, parse}
 use Rattle.block_frame.specs.Columns.{cut, joined, tableBytes, blockBytes, newBlock}
 use Rattle.column_part.specs.Part.{startOf, noPart, rowPart, partIn, partAt, bytesOf}
-use Rattle.block_frame.specs.Frame.{shut, room, headOf, tailOf, framedIn, framed, frameOut}
+use Rattle.block_frame.specs.Frame.{shut, room, frontOf, tailOf, framedIn, framed, frameOut}
 use Rattle.block_frame.proofs.Cutting.{cut-count, cut-lens, cut-at, cut-joined, joined-cut, joined-length, set-lens, set-joined}
 use Rattle.block_frame.proofs.Framing.{framed-10, framed-room}
 use Rattle.block_frame.proofs.Tables.{Below, Proper, below-set, table-back, table-fills, short-proper, table-only}
@@ -186,13 +186,13 @@ columns-agree edit s s′ specs lens next position short e e′ h same small =
 
 -- what a frame is, where it is given
 framed-is : (s specs lens : List ℕ) (next position size out : ℕ) (head tail : List ℕ) → framedIn s position size out (tab specs lens next) ≡ room head tail
-    → (position < length specs) × (headOf s specs lens next position size ≡ head) × (tailOf s lens next position ≡ tail)
+    → (position < length specs) × (frontOf s specs lens next position size ≡ head) × (tailOf s lens next position ≡ tail)
     × (length head + (size + length tail) ≤ out)
 framed-is s specs lens next position size out head tail e =
     go (ltb position (length specs)) (leb (length H + (size + length T)) out) refl refl e
   where
     H : List ℕ
-    H = headOf s specs lens next position size
+    H = frontOf s specs lens next position size
 
     T : List ℕ
     T = tailOf s lens next position
@@ -209,7 +209,7 @@ framed-is s specs lens next position size out head tail e =
 
 module _ (s specs lens : List ℕ) (next : ℕ) (e : parse s ≡ tab specs lens next) (position : ℕ) (h : position < length specs) (column : List ℕ) where
   -- the new block: the new table and the earlier columns, the new column, the later columns
-  pub new-block : newBlock s specs lens next position column ≡ headOf s specs lens next position (length column) ++ (column ++ tailOf s lens next position)
+  pub new-block : newBlock s specs lens next position column ≡ frontOf s specs lens next position (length column) ++ (column ++ tailOf s lens next position)
   unfolding newBlock blockBytes
   new-block =
       let f = table-fills s specs lens next e in
@@ -228,15 +228,15 @@ module _ (s specs lens : List ℕ) (next : ℕ) (e : parse s ≡ tab specs lens 
       (column ++ tailOf s lens next position))
 
   new-length : length (newBlock s specs lens next position column)
-      ≡ length (headOf s specs lens next position (length column)) + (length column + length (tailOf s lens next position))
+      ≡ length (frontOf s specs lens next position (length column)) + (length column + length (tailOf s lens next position))
   new-length =
-      let H = headOf s specs lens next position (length column) in
+      let H = frontOf s specs lens next position (length column) in
       let T = tailOf s lens next position in
       ap length new-block ∙ length-append H (column ++ T) ∙ ap (λ (n : ℕ). length H + n) (length-append column T)
 
   -- a frame is given exactly where the new block fits
   pub frame-given : (out : ℕ) → length (newBlock s specs lens next position column) ≤ out
-      → framed s position (length column) out ≡ room (headOf s specs lens next position (length column)) (tailOf s lens next position)
+      → framed s position (length column) out ≡ room (frontOf s specs lens next position (length column)) (tailOf s lens next position)
   frame-given out r = framed-room s position (length column) out specs lens next e h (omega (arith, new-length))
 
   pub frame-refused : (out : ℕ) → out < length (newBlock s specs lens next position column) → framed s position (length column) out ≡ shut 10 0
@@ -245,7 +245,7 @@ module _ (s specs lens : List ℕ) (next : ℕ) (e : parse s ≡ tab specs lens 
 module _ (s specs lens : List ℕ) (next position size out : ℕ) (head tail : List ℕ) (e : parse s ≡ tab specs lens next)
     (f : framed s position size out ≡ room head tail)
     (column : List ℕ) (l : length column ≡ size) where
-  frame-parts : (position < length specs) × (headOf s specs lens next position size ≡ head) × (tailOf s lens next position ≡ tail) ×
+  frame-parts : (position < length specs) × (frontOf s specs lens next position size ≡ head) × (tailOf s lens next position ≡ tail) ×
       (length head + (size + length tail) ≤ out)
   unfolding framed
   frame-parts = framed-is s specs lens next position size out head tail (ap (framedIn s position size out) (sym e) ∙ f)
@@ -258,7 +258,7 @@ module _ (s specs lens : List ℕ) (next position size out : ℕ) (head tail : L
       let b : head ++ (column ++ tail) ≡ newBlock s specs lens next position column =
       sym
       (new-block s specs lens next e position (p .0) column
-      ∙ ap (λ (n : ℕ). headOf s specs lens next position n ++ (column ++ tailOf s lens next position)) l
+      ∙ ap (λ (n : ℕ). frontOf s specs lens next position n ++ (column ++ tailOf s lens next position)) l
       ∙ ap (λ (x : List ℕ). x ++ (column ++ tailOf s lens next position)) (p .1)
       ∙ ap (λ (x : List ℕ). head ++ (column ++ x)) (p .2)) in (
         b,

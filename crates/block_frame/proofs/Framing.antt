@@ -11,7 +11,7 @@ use Rattle.raw_column.specs.Table.{tab, faulty, parse}
 use Rattle.block_frame.specs.Columns.{tableBytes}
 use Rattle.column_part.specs.Part.{startOf}
 use Rattle.block_frame.specs.Chosen.{Chosen}
-use Rattle.block_frame.specs.Frame.{shut, room, headOf, tailOf, framed, frameOf, frameOut}
+use Rattle.block_frame.specs.Frame.{shut, room, frontOf, tailOf, framed, frameOf, frameOut}
 use Rattle.block_frame.specs.declared.Frame.{Frame}
 use Rattle.raw_column.specs.declared.Table.{Table}
 use Rattle.raw_column.proofs.Opening.{sum-to}
@@ -53,14 +53,14 @@ module _ (s : List ℕ) (position size out : ℕ) where
     framed-16 h = rw (e, le-ltb position (length specs) h)
 
     abbrev frameLen : ℕ
-    frameLen = length (headOf s specs lens next position size) + (size + length (tailOf s lens next position))
+    frameLen = length (frontOf s specs lens next position size) + (size + length (tailOf s lens next position))
 
     pub framed-10 : position < length specs → out < frameLen → framed s position size out ≡ shut 10 0
     unfolding framed
     framed-10 h r = rw (e, lt-ltb position (length specs) h, lt-leb frameLen out r)
 
     pub framed-room : position < length specs → frameLen ≤ out
-        → framed s position size out ≡ room (headOf s specs lens next position size) (tailOf s lens next position)
+        → framed s position size out ≡ room (frontOf s specs lens next position size) (tailOf s lens next position)
     unfolding framed
     framed-room h r = rw (e, lt-ltb position (length specs) h, le-leb frameLen out r)
 
@@ -119,7 +119,7 @@ module _ {s : List ℕ} {table : Table} {next position : ℕ} (g : Chosen s tabl
       take-all (length s - E) (drop E s) (omega (arith, length-drop E s)) ∙ ap (λ (k : ℕ). drop k s) e
 
   module _ (size : ℕ) where
-    before-is : before s table next position size ≡ headOf s S L next position size
+    before-is : before s table next position size ≡ frontOf s S L next position size
     before-is =
         ap (λ (l : List ℕ). tableBytes S l ++ take (startIn table next position - next) (drop next s))
         (take-set-lt (table .rows) (table .lens) position size (g .there))

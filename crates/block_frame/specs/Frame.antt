@@ -14,8 +14,8 @@ pub data Framed : Type 0 where
   shut : ℕ → ℕ → Framed
   room : List ℕ → List ℕ → Framed
 
-abbrev pub headOf : List ℕ → List ℕ → List ℕ → ℕ → ℕ → ℕ → List ℕ
-headOf s specs lens next position size = tableBytes specs (set lens position size) ++ take (startOf lens next position - next) (drop next s)
+abbrev pub frontOf : List ℕ → List ℕ → List ℕ → ℕ → ℕ → ℕ → List ℕ
+frontOf s specs lens next position size = tableBytes specs (set lens position size) ++ take (startOf lens next position - next) (drop next s)
 
 abbrev pub tailOf : List ℕ → List ℕ → ℕ → ℕ → List ℕ
 tailOf s lens next position = drop (startOf lens next position + getD lens position 0) s
@@ -23,8 +23,8 @@ tailOf s lens next position = drop (startOf lens next position + getD lens posit
 abbrev pub framedIn : List ℕ → ℕ → ℕ → ℕ → Tab → Framed
 framedIn s position size out (tab specs lens next) =
     cond (ltb position (length specs))
-    (cond (leb (length (headOf s specs lens next position size) + (size + length (tailOf s lens next position))) out)
-    (room (headOf s specs lens next position size) (tailOf s lens next position))
+    (cond (leb (length (frontOf s specs lens next position size) + (size + length (tailOf s lens next position))) out)
+    (room (frontOf s specs lens next position size) (tailOf s lens next position))
     (shut 10 0))
     (shut 16 0)
 framedIn s position size out (faulty number place) = shut number place

@@ -7,7 +7,7 @@ ghost use lib.ListN.{length, drop};
 ghost use lib.Seq.{sets};
 ghost use Rattle.leb128.specs.Write.{u64Bytes};
 ghost use Rattle.encoding.specs.Ahead.{PutAt};
-ghost use Rattle.encoding.specs.Answers.{answerOf};
+ghost use Rattle.encoding.specs.Cases.{answerOf};
 ghost use Rattle.encoding.specs.Given.{listJudged, sized, Encoded};
 ghost use Rattle.encoding.specs.Limit.{limit};
 ghost use Rattle.boolean_encoder.specs.Ahead.{alike, Flags};

@@ -4,7 +4,7 @@ ghost use mathlib.Core.Path.{_≡_};
 ghost use Prim.Native.Nat.{_-_, _≤_};
 ghost use lib.ListN.{length, take, drop};
 ghost use Rattle.leb128.specs.Answer.{done};
-ghost use Rattle.encoding.specs.Answers.{answerOf};
+ghost use Rattle.encoding.specs.Cases.{answerOf};
 ghost use Rattle.boolean_decoder.specs.Decoded.{Decoded};
 ghost use Rattle.boolean_decoder.specs.Turns.{boolTrace};
 ghost use Rattle.splice.specs.Contract.{BooleanSpliced};

@@ -15,7 +15,7 @@ use Rattle.splice.specs.Edit.{answered}
 use Rattle.splice.specs.Kind.{Kind}
 use Rattle.splice.specs.declared.End.{End}
 use Rattle.splice.specs.declared.Spliced.{Spliced as Edit}
-use Rattle.capi.specs.Answers.{counted, splicedAs}
+use Rattle.capi.specs.Cases.{counted, splicedAs}
 use Rattle.capi.specs.Told.{Told, ToldEdit}
 use Rattle.capi.specs.declared.Counted.{Counted}
 use Rattle.capi.specs.declared.Spliced.{Spliced}

@@ -3,7 +3,7 @@
 use mathlib.Core.Path.{_≡_}
 use Rattle.leb128.specs.Answer.{Answer}
 use Rattle.splice.specs.declared.Spliced.{Spliced as Edit}
-use Rattle.capi.specs.Answers.{counted, splicedAs}
+use Rattle.capi.specs.Cases.{counted, splicedAs}
 use Rattle.capi.specs.declared.Counted.{Counted}
 use Rattle.capi.specs.declared.Spliced.{Spliced}
 

@@ -1,10 +1,10 @@
 // The library's answers in the boundary's form.
 ghost use mathlib.Core.Path.{_≡_};
 ghost use Rattle.leb128.specs.Answer.{done, refused};
-ghost use Rattle.leb128.specs.Answers.{u64Of, i64Of, u32Of};
-ghost use Rattle.leb128_writer.specs.Answers.{writtenOf};
-ghost use Rattle.encoding.specs.Answers.{answerOf};
-ghost use Rattle.capi.specs.Answers.{numberU64, numberI64, numberU32, counted, specification, tableAs, openedAs, partAs, frameAs, splicedAs};
+ghost use Rattle.leb128.specs.Cases.{u64Of, i64Of, u32Of};
+ghost use Rattle.leb128_writer.specs.Cases.{writtenOf};
+ghost use Rattle.encoding.specs.Cases.{answerOf};
+ghost use Rattle.capi.specs.Cases.{numberU64, numberI64, numberU32, counted, specification, tableAs, openedAs, partAs, frameAs, splicedAs};
 use crate::Counted;
 use crate::Frame;
 use crate::NumberI64;

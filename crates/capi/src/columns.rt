@@ -13,7 +13,7 @@ ghost use Rattle.delta_encoder.specs.Differences.{deltaBytes, deltaJudged};
 ghost use Rattle.boolean_decoder.specs.Decoded.{Decoded as DecodedFlags};
 ghost use Rattle.boolean_decoder.specs.Turns.{boolTrace};
 ghost use Rattle.boolean_encoder.specs.Writer.{boolBytes, maybeBytes};
-ghost use Rattle.capi.specs.Answers.{counted};
+ghost use Rattle.capi.specs.Cases.{counted};
 ghost use Rattle.capi.specs.Told.{Told};
 use crate::Counted;
 use crate::answers;

@@ -5,7 +5,7 @@ ghost use lib.ListN.{length};
 ghost use Rattle.slots.specs.Splice.{spliceAnswer, splicedSlots};
 ghost use Rattle.splice.specs.Contract.{OptionalSpliced, BooleanSpliced};
 ghost use Rattle.splice.specs.Kinds.{integer, delta, boolean};
-ghost use Rattle.capi.specs.Answers.{counted};
+ghost use Rattle.capi.specs.Cases.{counted};
 ghost use Rattle.capi.specs.Told.{ToldEdit};
 use crate::Counted;
 use crate::Spliced;

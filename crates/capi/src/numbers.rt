@@ -4,7 +4,7 @@ ghost use lib.ListN.{length};
 ghost use Rattle.leb128.specs.Answer.{written, left};
 ghost use Rattle.leb128.specs.Read.{u64At, i64At, u32At, nonzeroAt};
 ghost use Rattle.leb128.specs.Write.{u64Bytes, i64Bytes, putAt, putOut};
-ghost use Rattle.capi.specs.Answers.{numberU64, numberI64, numberU32, counted};
+ghost use Rattle.capi.specs.Cases.{numberU64, numberI64, numberU32, counted};
 use crate::Counted;
 use crate::NumberI64;
 use crate::NumberU32;

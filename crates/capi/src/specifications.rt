@@ -2,7 +2,7 @@
 ghost use mathlib.Core.Path.{_≡_};
 ghost use Rattle.column_specification.specs.Key.{key};
 ghost use Rattle.column_specification.specs.Specification.{pack, idOf, typeOf, compressedOf};
-ghost use Rattle.capi.specs.Answers.{specification};
+ghost use Rattle.capi.specs.Cases.{specification};
 use crate::Specification;
 use crate::answers;
 use column_specification::ColumnSpec;

@@ -5,7 +5,7 @@ ghost use Rattle.block_frame.specs.Frame.{framed, frameOf, frameOut};
 ghost use Rattle.column_part.specs.Part.{partAt, partFor};
 ghost use Rattle.raw_column.specs.Rows.{opened};
 ghost use Rattle.raw_column.specs.Table.{parse};
-ghost use Rattle.capi.specs.Answers.{openedAs, partAs, frameAs};
+ghost use Rattle.capi.specs.Cases.{openedAs, partAs, frameAs};
 use crate::Frame;
 use crate::Opened;
 use crate::Part;

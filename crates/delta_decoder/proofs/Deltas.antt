@@ -8,9 +8,9 @@ use native.Mathlib.Omega.{arith}
 use lib.IntN.{ℤ, pos}
 use lib.ListN.{length, replicate}
 use Rattle.leb128.specs.Read.{i64At}
-use Rattle.encoding.specs.Head.{Head, again, singly, gone, amiss, headAt}
+use Rattle.encoding.specs.Head.{Head, amiss, headAt}
 use Rattle.encoding.specs.Walk.{Next, over, on, off, Run, whole, cut, stop, Ending, Trace, before, after}
-use Rattle.encoding.specs.Column.{Reading, absent, present, Spot, spot, repeated, singles, opened, runAt}
+use Rattle.encoding.specs.Column.{Reading, absent, present, Spot, spot, repeated, literals, runOf, runAt}
 use Rattle.encoding.proofs.Walking.{Machine, rest, rest-is}
 use Rattle.encoding.proofs.Columns.{columns, trace-rest, run-head, run-end}
 use Rattle.delta_decoder.specs.Difference.{i64E}
@@ -103,28 +103,28 @@ module _ (s : List ℕ) where
 -- ---- a run by how it begins
 
 module _ (s : List ℕ) (at had n : ℕ) where
-  delta-head : (h : Head) → at < length s → headAt s at had ≡ h → deltaRun s (sofar at had n) ≡ summing n (opened i64E s had h)
+  delta-head : (h : Head) → at < length s → headAt s at had ≡ h → deltaRun s (sofar at had n) ≡ summing n (runOf i64E s had h)
   unfolding deltaRun
   delta-head h l e = ap (λ (r : Run (Reading ℤ) Spot). summing n r) (run-head i64E s at had h l e)
 
-  pub delta-again : (c q : ℕ) → at < length s → headAt s at had ≡ again c q
+  pub delta-repeat : (c q : ℕ) → at < length s → headAt s at had ≡ Head.repeat c q
       → deltaRun s (sofar at had n) ≡ summing n (repeated had c q (i64At s q))
-  unfolding opened
-  delta-again c q l e = delta-head (again c q) l e
+  unfolding runOf
+  delta-repeat c q l e = delta-head (Head.repeat c q) l e
 
-  pub delta-singly : (c q : ℕ) → at < length s → headAt s at had ≡ singly c q
-      → deltaRun s (sofar at had n) ≡ summing n (singles i64E s (had + c) c q)
-  unfolding opened
-  delta-singly c q l e = delta-head (singly c q) l e
+  pub delta-literal : (c q : ℕ) → at < length s → headAt s at had ≡ Head.literal c q
+      → deltaRun s (sofar at had n) ≡ summing n (literals i64E s (had + c) c q)
+  unfolding runOf
+  delta-literal c q l e = delta-head (Head.literal c q) l e
 
-  pub delta-gone : (c q : ℕ) → at < length s → headAt s at had ≡ gone c q
+  pub delta-absent : (c q : ℕ) → at < length s → headAt s at had ≡ Head.absent c q
       → deltaRun s (sofar at had n) ≡ whole (replicate c absent) (sofar q (had + c) n)
-  unfolding opened
-  delta-gone c q l e = delta-head (gone c q) l e ∙ sum-absent n c (on (spot q (had + c)))
+  unfolding runOf
+  delta-absent c q l e = delta-head (Head.absent c q) l e ∙ sum-absent n c (on (spot q (had + c)))
 
   pub delta-amiss : (number place : ℕ) → at < length s → headAt s at had ≡ amiss number place
       → deltaRun s (sofar at had n) ≡ cut number place
-  unfolding opened sumRun
+  unfolding runOf sumRun
   delta-amiss number place l e = delta-head (amiss number place) l e
 
   pub delta-end : length s ≤ at → deltaRun s (sofar at had n) ≡ stop

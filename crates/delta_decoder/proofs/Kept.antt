@@ -35,8 +35,8 @@ by-order P a b f g = go (ltb a b) refl
     go true e = f (ltb-true a b e)
     go false e = g (ltb-false a b e)
 
-same-gap : (a b c d : ℕ) → a + d ≡ c + b → subℕ a b ≡ subℕ c d
-same-gap a b c d e =
+same-absent : (a b c d : ℕ) → a + d ≡ c + b → subℕ a b ≡ subℕ c d
+same-absent a b c d e =
     by-order (subℕ a b ≡ subℕ c d) a b
     (λ h. let k : b - suc a ≡ d - suc c = omega arith in below a b h ∙ ap negsuc k ∙ sym (below c d (omega arith)))
     (λ h. let k : a - b ≡ c - d = omega arith in above a b h ∙ ap pos k ∙ sym (above c d (omega arith)))
@@ -55,7 +55,7 @@ sum-up : (n m : ℕ) → sumOf n +ℤ pos m ≡ sumOf (n + m)
 unfolding sumOf
 sum-up n m =
     by-order (sumOf n +ℤ pos m ≡ sumOf (n + m)) n (2 ^ 63)
-    (λ h. ap (λ (z : ℤ). z +ℤ pos m) (sum-low n h) ∙ same-gap m (suc (2 ^ 63 - suc n)) (n + m) (2 ^ 63) (omega arith))
+    (λ h. ap (λ (z : ℤ). z +ℤ pos m) (sum-low n h) ∙ same-absent m (suc (2 ^ 63 - suc n)) (n + m) (2 ^ 63) (omega arith))
     (λ h. let k : n - 2 ^ 63 + m ≡ n + m - 2 ^ 63 = omega arith in
     ap (λ (z : ℤ). z +ℤ pos m) (sum-high n h) ∙ ap pos k ∙ sym (sum-high (n + m) (omega arith)))
 
@@ -65,7 +65,7 @@ sum-down n m l =
     by-order (sumOf n +ℤ negsuc m ≡ sumOf (n - suc m)) n (2 ^ 63)
     (λ h. let k : suc (2 ^ 63 - suc n + m) ≡ 2 ^ 63 - suc (n - suc m) = omega arith in
     ap (λ (z : ℤ). z +ℤ negsuc m) (sum-low n h) ∙ ap negsuc k ∙ sym (sum-low (n - suc m) (omega arith)))
-    (λ h. ap (λ (z : ℤ). z +ℤ negsuc m) (sum-high n h) ∙ same-gap (n - 2 ^ 63) (suc m) (n - suc m) (2 ^ 63) (omega arith))
+    (λ h. ap (λ (z : ℤ). z +ℤ negsuc m) (sum-high n h) ∙ same-absent (n - 2 ^ 63) (suc m) (n - suc m) (2 ^ 63) (omega arith))
 
 sum-under : (n m : ℕ) → n ≤ m → sumOf n +ℤ negsuc m ≡ negsuc (2 ^ 63 + (m - n))
 sum-under n m l =

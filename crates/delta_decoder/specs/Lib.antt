@@ -1,4 +1,4 @@
-pub mod Answers
+pub mod Cases
 pub mod Difference
 pub mod Sofar
 pub mod Sums

@@ -7,12 +7,12 @@ ghost use lib.ListN.{length, replicate};
 ghost use lib.Seq.{sets};
 ghost use Rattle.leb128.specs.Got.{got};
 ghost use Rattle.leb128.specs.Read.{i64At};
-ghost use Rattle.encoding.specs.Answers.{answerOf};
-ghost use Rattle.encoding.specs.Column.{repeated, singles};
+ghost use Rattle.encoding.specs.Cases.{answerOf};
+ghost use Rattle.encoding.specs.Column.{repeated, literals};
 ghost use Rattle.encoding.specs.Limit.{limit};
 ghost use Rattle.encoding.specs.Slots.{slotOf, flagOf, Decoded, Room, Wrote};
 ghost use Rattle.encoding.specs.Walk.{outcome};
-ghost use Rattle.delta_decoder.specs.Answers.{stepOf};
+ghost use Rattle.delta_decoder.specs.Cases.{stepOf};
 ghost use Rattle.delta_decoder.specs.Difference.{i64E};
 ghost use Rattle.delta_decoder.specs.Sofar.{sofar, summing, deltaRun};
 ghost use Rattle.delta_decoder.specs.Sums.{deltaTrace};
@@ -50,8 +50,8 @@ fn scan_repeat(s: &[u8], q: usize, had: u64, c: u64, n: u64) -> Step
 }
 
 // c differences singly, from q on, behind which there are `total` readings, on the sum `sum`.
-fn scan_singles(s: &[u8], q: usize, total: u64, c: u64, sum: u64) -> Step
-    ensures { λ r. ⌜ stepOf r ≡ summing sum (singles i64E (now (s .entry)) total c q) .next ⌝ }
+fn scan_literal(s: &[u8], q: usize, total: u64, c: u64, sum: u64) -> Step
+    ensures { λ r. ⌜ stepOf r ≡ summing sum (literals i64E (now (s .entry)) total c q) .next ⌝ }
 {
     let mut at = q;
     let mut left = c;
@@ -82,10 +82,10 @@ fn scan_run(s: &[u8], at: usize, had: u64, n: u64) -> Step
     ensures { λ r. ⌜ stepOf r ≡ deltaRun (now (s .entry)) (sofar at had n) .next ⌝ }
 {
     match run_head::head_at(s, at, had) {
-        Head::Again(c, q) => scan_repeat(s, q, had, c, n),
-        Head::Singly(c, q) => scan_singles(s, q, had + c, c, n),
-        Head::Gone(c, next) => Step::On(next, had + c, n),
-        Head::Amiss(k, place) => Step::Off(k, place),
+        Head::Repeat(c, q) => scan_repeat(s, q, had, c, n),
+        Head::Literal(c, q) => scan_literal(s, q, had + c, c, n),
+        Head::Absent(c, next) => Step::On(next, had + c, n),
+        Head::Refused(k, place) => Step::Off(k, place),
     }
 }
 
@@ -112,7 +112,7 @@ pub fn count(s: &[u8]) -> Answer
 }
 
 // c absent readings in the slots from `from` on.
-fn fill_gone(values: &mut [i64], present: &mut [u8], from: usize, c: u64)
+fn fill_absent(values: &mut [i64], present: &mut [u8], from: usize, c: u64)
     requires { ⌜ (from + c ≤ length (now values)) × (length (now present) ≡ length (now values)) ⌝ }
     ensures { λ _. ⌜ (now (values .exit) ≡ sets (now (values .entry)) from (replicate c (pos 0)))
         × (now (present .exit) ≡ sets (now (present .entry)) from (replicate c 0)) ⌝ }
@@ -128,7 +128,7 @@ fn fill_gone(values: &mut [i64], present: &mut [u8], from: usize, c: u64)
 }
 
 // A repeated run of c differences d that stands at q, on the sum `sum`, before the position `next`.
-fn fill_again(
+fn fill_sums(
     d: i64,
     q: usize,
     next: usize,
@@ -181,13 +181,13 @@ fn fill_repeat(
         (now (values .entry)) (now (values .exit)) (now (present .entry)) (now (present .exit)) ⌝ }
 {
     match leb128::leb128_i64(s, q) {
-        ParsedI64::Number(d, next) => fill_again(d, q, next, had, c, n, values, present),
+        ParsedI64::Number(d, next) => fill_sums(d, q, next, had, c, n, values, present),
         ParsedI64::Refused(k, place) => Step::Off(k, place),
     }
 }
 
 // c differences singly, from q on, on the sum `sum`.
-fn fill_singles(
+fn fill_literal(
     s: &[u8],
     q: usize,
     total: u64,
@@ -197,9 +197,9 @@ fn fill_singles(
     values: &mut [i64],
     present: &mut [u8],
 ) -> Step
-    requires { ⌜ Room (summing sum (singles i64E (now s) total c q) .readings) from (now values) (now present) ⌝ }
-    ensures { λ r. ⌜ stepOf r ≡ summing sum (singles i64E (now (s .entry)) total c q) .next ⌝ }
-    ensures { λ r. ⌜ Wrote (slotOf (pos 0)) flagOf (summing sum (singles i64E (now (s .entry)) total c q) .readings) from
+    requires { ⌜ Room (summing sum (literals i64E (now s) total c q) .readings) from (now values) (now present) ⌝ }
+    ensures { λ r. ⌜ stepOf r ≡ summing sum (literals i64E (now (s .entry)) total c q) .next ⌝ }
+    ensures { λ r. ⌜ Wrote (slotOf (pos 0)) flagOf (summing sum (literals i64E (now (s .entry)) total c q) .readings) from
         (now (values .entry)) (now (values .exit)) (now (present .entry)) (now (present .exit)) ⌝ }
 {
     let mut at = q;
@@ -238,13 +238,13 @@ fn fill_run(s: &[u8], at: usize, had: u64, n: u64, values: &mut [i64], present: 
         (now (values .entry)) (now (values .exit)) (now (present .entry)) (now (present .exit)) ⌝ }
 {
     match run_head::head_at(s, at, had) {
-        Head::Again(c, q) => fill_repeat(s, q, had, c, n, values, present),
-        Head::Singly(c, q) => fill_singles(s, q, had + c, c, had as usize, n, values, present),
-        Head::Gone(c, next) => {
-            fill_gone(values, present, had as usize, c);
+        Head::Repeat(c, q) => fill_repeat(s, q, had, c, n, values, present),
+        Head::Literal(c, q) => fill_literal(s, q, had + c, c, had as usize, n, values, present),
+        Head::Absent(c, next) => {
+            fill_absent(values, present, had as usize, c);
             Step::On(next, had + c, n)
         }
-        Head::Amiss(k, place) => Step::Off(k, place),
+        Head::Refused(k, place) => Step::Off(k, place),
     }
 }
 

@@ -1,6 +1,6 @@
 // Running sums. A sum z is kept as the unsigned number z + 2^63, so that it leaves i64 just where that number leaves u64.
 ghost use mathlib.Core.Path.{_≡_};
-ghost use Rattle.delta_decoder.specs.Answers.{sumIs};
+ghost use Rattle.delta_decoder.specs.Cases.{sumIs};
 ghost use Rattle.delta_decoder.specs.Sofar.{sumOf, plus, plusTimes};
 use leb128::magnitude;
 

@@ -87,11 +87,11 @@ module _ (v : List ℤ) (p : List ℕ) (even : length p ≡ length v) where
       last-some (k - 1) (omega arith) f ∙ ap (lastBefore v p) e
 
   -- and behind absent ones
-  pub last-gap : (i n : ℕ) → i + n ≤ length v → ((j : ℕ) → i ≤ j → j < i + n → getD p j 0 ≡ 0) → lastBefore v p i ≡ lastBefore v p (i + n)
-  last-gap i zero l f = let e : i ≡ i + 0 = omega arith in ap (lastBefore v p) e
-  last-gap i (suc n) l f =
+  pub last-absent : (i n : ℕ) → i + n ≤ length v → ((j : ℕ) → i ≤ j → j < i + n → getD p j 0 ≡ 0) → lastBefore v p i ≡ lastBefore v p (i + n)
+  last-absent i zero l f = let e : i ≡ i + 0 = omega arith in ap (lastBefore v p) e
+  last-absent i (suc n) l f =
       let e : i + n + 1 ≡ i + suc n = omega arith in
-      last-gap i n (omega arith) (λ j g h. f j g (omega arith))
+      last-absent i n (omega arith) (λ j g h. f j g (omega arith))
       ∙ last-none (i + n) (omega arith) (f (i + n) (omega arith) (omega arith))
       ∙ ap (lastBefore v p) e
 

@@ -1,3 +1,3 @@
 pub mod Ahead
-pub mod Answers
+pub mod Cases
 pub mod Differences

@@ -7,17 +7,17 @@ ghost use lib.IntN.{pos, _-ℤ_};
 ghost use lib.ListN.{length, getD};
 ghost use lib.Seq.{sets, slice};
 ghost use Rattle.leb128.specs.Write.{u64Bytes, i64Bytes};
-ghost use Rattle.encoding.specs.Ahead.{bytesFrom, endOf, stretchOf, PieceAt, RunTo, RowTo, Paired, PutAt, AllPresent};
-ghost use Rattle.encoding.specs.Answers.{answerOf};
+ghost use Rattle.encoding.specs.Ahead.{bytesFrom, endOf, stretchOf, StretchAt, RepeatTo, LiteralTo, Paired, PutAt, AllPresent};
+ghost use Rattle.encoding.specs.Cases.{answerOf};
 ghost use Rattle.encoding.specs.Given.{slotList, sized, Encoded};
 ghost use Rattle.encoding.specs.Limit.{limit};
 ghost use Rattle.encoding.specs.Writer.{allBytes, stretchBytes};
 ghost use Rattle.delta_encoder.specs.Ahead.{diffs, lastBefore, Narrow};
-ghost use Rattle.delta_encoder.specs.Answers.{widthOf};
+ghost use Rattle.delta_encoder.specs.Cases.{widthOf};
 ghost use Rattle.delta_decoder.specs.Difference.{sameZ, holds, i64E};
 ghost use Rattle.delta_encoder.specs.Differences.{differences, deltaBytes, wideAt, deltaJudged};
 use encoding::Answer;
-use encoding::Piece;
+use encoding::StretchEnd;
 use leb128::magnitude;
 use leb128_writer::Written;
 
@@ -69,10 +69,10 @@ fn check_width(values: &[i64], present: &[u8]) -> Width
 }
 
 // The index behind the differences that equal the one at i, before which `last` is the last value.
-fn run_end(values: &[i64], present: &[u8], i: usize, last: i64) -> usize
+fn repeat_end(values: &[i64], present: &[u8], i: usize, last: i64) -> usize
     requires { ⌜ Narrow (now values) (now present) ⌝ }
     requires { ⌜ (i < length (now values)) × (getD (now present) i 0 ≡ 0 → ⊥) × (last ≡ lastBefore (now values) (now present) i) ⌝ }
-    ensures { λ r. ⌜ RunTo sameZ (pos 0) (diffs (now (values .entry)) (now (present .entry))) (now (present .entry)) i r ⌝ }
+    ensures { λ r. ⌜ RepeatTo sameZ (pos 0) (diffs (now (values .entry)) (now (present .entry))) (now (present .entry)) i r ⌝ }
 {
     let d = values[i] - last;
     let mut k = i + 1;
@@ -108,11 +108,11 @@ fn paired(values: &[i64], present: &[u8], k: usize, last: i64) -> bool
 }
 
 // The index behind the differences from i on that equal no neighbour.
-fn row_end(values: &[i64], present: &[u8], i: usize) -> usize
+fn literal_end(values: &[i64], present: &[u8], i: usize) -> usize
     requires { ⌜ Narrow (now values) (now present) ⌝ }
-    requires { ⌜ RowTo sameZ (pos 0) (diffs (now values) (now present)) (now present) i (i + 1) ⌝ }
+    requires { ⌜ LiteralTo sameZ (pos 0) (diffs (now values) (now present)) (now present) i (i + 1) ⌝ }
     requires { ⌜ (getD (now present) i 0 ≡ 0 → ⊥) ⌝ }
-    ensures { λ r. ⌜ PieceAt sameZ (pos 0) (diffs (now (values .entry)) (now (present .entry))) (now (present .entry)) i (Piece.Row r) ⌝ }
+    ensures { λ r. ⌜ StretchAt sameZ (pos 0) (diffs (now (values .entry)) (now (present .entry))) (now (present .entry)) i (StretchEnd.Row r) ⌝ }
 {
     let mut j = i + 1;
     while j < values.len() {
@@ -128,39 +128,39 @@ fn row_end(values: &[i64], present: &[u8], i: usize) -> usize
 }
 
 // The stretch at i, before which `last` is the last value.
-fn piece_at(values: &[i64], present: &[u8], i: usize, last: i64) -> Piece
+fn stretch_at(values: &[i64], present: &[u8], i: usize, last: i64) -> StretchEnd
     requires { ⌜ Narrow (now values) (now present) ⌝ }
     requires { ⌜ (i < length (now values)) × (last ≡ lastBefore (now values) (now present) i) ⌝ }
-    ensures { λ r. ⌜ PieceAt sameZ (pos 0) (diffs (now (values .entry)) (now (present .entry))) (now (present .entry)) i r ⌝ }
+    ensures { λ r. ⌜ StretchAt sameZ (pos 0) (diffs (now (values .entry)) (now (present .entry))) (now (present .entry)) i r ⌝ }
 {
     if present[i] == 0 {
-        return Piece::Gap(given_list::gap_end(present, i));
+        return StretchEnd::Absent(given_list::absent_end(present, i));
     }
-    let k = run_end(values, present, i, last);
+    let k = repeat_end(values, present, i, last);
     if 2 <= k - i {
-        return Piece::Run(k);
+        return StretchEnd::Repeat(k);
     }
-    Piece::Row(row_end(values, present, i))
+    StretchEnd::Literal(literal_end(values, present, i))
 }
 
-fn piece_end(piece: Piece) -> usize
-    ensures { λ r. ⌜ r ≡ endOf piece ⌝ }
+fn stretch_end(stretch: StretchEnd) -> usize
+    ensures { λ r. ⌜ r ≡ endOf stretch ⌝ }
 {
-    match piece {
-        Piece::Gap(k) => k,
-        Piece::Run(k) => k,
-        Piece::Row(k) => k,
+    match stretch {
+        StretchEnd::Absent(k) => k,
+        StretchEnd::Repeat(k) => k,
+        StretchEnd::Literal(k) => k,
     }
 }
 
 // The last value behind the stretch at i, before which it is `last`.
-fn piece_last(values: &[i64], present: &[u8], i: usize, piece: Piece, last: i64) -> i64
+fn stretch_last(values: &[i64], present: &[u8], i: usize, stretch: StretchEnd, last: i64) -> i64
     requires { ⌜ length (now present) ≡ length (now values) ⌝ }
     requires { ⌜ last ≡ lastBefore (now values) (now present) i ⌝ }
-    requires { ⌜ PieceAt sameZ (pos 0) (diffs (now values) (now present)) (now present) i piece ⌝ }
-    ensures { λ r. ⌜ r ≡ lastBefore (now (values .entry)) (now (present .entry)) (endOf piece) ⌝ }
+    requires { ⌜ StretchAt sameZ (pos 0) (diffs (now values) (now present)) (now present) i stretch ⌝ }
+    ensures { λ r. ⌜ r ≡ lastBefore (now (values .entry)) (now (present .entry)) (endOf stretch) ⌝ }
 {
-    let k = piece_end(piece);
+    let k = stretch_end(stretch);
     if present[k - 1] == 0 {
         return last;
     }
@@ -168,7 +168,7 @@ fn piece_last(values: &[i64], present: &[u8], i: usize, piece: Piece, last: i64)
 }
 
 // How many bytes the differences from i up to k take, before which `last` is the last value.
-fn row_len(values: &[i64], present: &[u8], i: usize, k: usize, last: i64) -> usize
+fn literal_len(values: &[i64], present: &[u8], i: usize, k: usize, last: i64) -> usize
     requires { ⌜ Narrow (now values) (now present) × (length (now values) ≤ limit) ⌝ }
     requires { ⌜ (i ≤ k) × (k ≤ length (now values)) × AllPresent (now present) i k × (last ≡ lastBefore (now values) (now present) i) ⌝ }
     ensures { λ r. ⌜ (r ≡ length (allBytes i64E (slice i k (diffs (now (values .entry)) (now (present .entry)))))) × (r ≤ 10 * (k - i)) ⌝ }
@@ -185,18 +185,18 @@ fn row_len(values: &[i64], present: &[u8], i: usize, k: usize, last: i64) -> usi
 }
 
 // How many bytes the stretch at i takes, before which `last` is the last value.
-fn piece_len(values: &[i64], present: &[u8], i: usize, piece: Piece, last: i64) -> usize
+fn stretch_len(values: &[i64], present: &[u8], i: usize, stretch: StretchEnd, last: i64) -> usize
     requires { ⌜ Narrow (now values) (now present) × (length (now values) ≤ limit) ⌝ }
     requires { ⌜ last ≡ lastBefore (now values) (now present) i ⌝ }
-    requires { ⌜ PieceAt sameZ (pos 0) (diffs (now values) (now present)) (now present) i piece ⌝ }
-    ensures { λ r. ⌜ r ≡ length (stretchBytes i64E (stretchOf (pos 0) (diffs (now (values .entry)) (now (present .entry))) i piece)) ⌝ }
+    requires { ⌜ StretchAt sameZ (pos 0) (diffs (now values) (now present)) (now present) i stretch ⌝ }
+    ensures { λ r. ⌜ r ≡ length (stretchBytes i64E (stretchOf (pos 0) (diffs (now (values .entry)) (now (present .entry))) i stretch)) ⌝ }
 {
-    match piece {
-        Piece::Gap(k) => leb128_writer::len_i64(0) + leb128_writer::len_u64((k - i) as u64),
-        Piece::Run(k) => leb128_writer::len_i64(given_list::again_count((k - i) as u32))
+    match stretch {
+        StretchEnd::Absent(k) => leb128_writer::len_i64(0) + leb128_writer::len_u64((k - i) as u64),
+        StretchEnd::Repeat(k) => leb128_writer::len_i64(given_list::repeat_count((k - i) as u32))
             + leb128_writer::len_i64(values[i] - last),
-        Piece::Row(k) => leb128_writer::len_i64(given_list::singly_count((k - i) as u32))
-            + row_len(values, present, i, k, last),
+        StretchEnd::Literal(k) => leb128_writer::len_i64(given_list::literal_count((k - i) as u32))
+            + literal_len(values, present, i, k, last),
     }
 }
 
@@ -209,10 +209,10 @@ fn bytes_len(values: &[i64], present: &[u8]) -> usize
     let mut last = ORIGIN;
     let mut i: usize = 0;
     while i < values.len() {
-        let piece = piece_at(values, present, i, last);
-        n += piece_len(values, present, i, piece, last);
-        last = piece_last(values, present, i, piece, last);
-        i = piece_end(piece);
+        let stretch = stretch_at(values, present, i, last);
+        n += stretch_len(values, present, i, stretch, last);
+        last = stretch_last(values, present, i, stretch, last);
+        i = stretch_end(stretch);
     }
     n
 }
@@ -274,7 +274,7 @@ fn put_signed(out: &mut [u8], at: usize, x: i64) -> usize
 }
 
 // The differences from i up to k, before which `last` is the last value.
-fn put_row(
+fn put_literal(
     values: &[i64],
     present: &[u8],
     i: usize,
@@ -300,34 +300,34 @@ fn put_row(
 }
 
 // The stretch at i, before which `last` is the last value.
-fn put_piece(
+fn put_stretch(
     values: &[i64],
     present: &[u8],
     i: usize,
-    piece: Piece,
+    stretch: StretchEnd,
     last: i64,
     out: &mut [u8],
     at: usize,
 ) -> usize
     requires { ⌜ Narrow (now values) (now present) × (length (now values) ≤ limit) ⌝ }
     requires { ⌜ last ≡ lastBefore (now values) (now present) i ⌝ }
-    requires { ⌜ PieceAt sameZ (pos 0) (diffs (now values) (now present)) (now present) i piece ⌝ }
-    requires { ⌜ at + length (stretchBytes i64E (stretchOf (pos 0) (diffs (now values) (now present)) i piece)) ≤ length (now out) ⌝ }
+    requires { ⌜ StretchAt sameZ (pos 0) (diffs (now values) (now present)) (now present) i stretch ⌝ }
+    requires { ⌜ at + length (stretchBytes i64E (stretchOf (pos 0) (diffs (now values) (now present)) i stretch)) ≤ length (now out) ⌝ }
     ensures { λ r. ⌜ PutAt (now (out .entry)) (now (out .exit)) at r
-        (stretchBytes i64E (stretchOf (pos 0) (diffs (now (values .entry)) (now (present .entry))) i piece)) ⌝ }
+        (stretchBytes i64E (stretchOf (pos 0) (diffs (now (values .entry)) (now (present .entry))) i stretch)) ⌝ }
 {
-    match piece {
-        Piece::Gap(k) => {
+    match stretch {
+        StretchEnd::Absent(k) => {
             let q = put_signed(out, at, 0);
             put_number(out, q, (k - i) as u64)
         }
-        Piece::Run(k) => {
-            let q = put_signed(out, at, given_list::again_count((k - i) as u32));
+        StretchEnd::Repeat(k) => {
+            let q = put_signed(out, at, given_list::repeat_count((k - i) as u32));
             put_signed(out, q, values[i] - last)
         }
-        Piece::Row(k) => {
-            let q = put_signed(out, at, given_list::singly_count((k - i) as u32));
-            put_row(values, present, i, k, last, out, q)
+        StretchEnd::Literal(k) => {
+            let q = put_signed(out, at, given_list::literal_count((k - i) as u32));
+            put_literal(values, present, i, k, last, out, q)
         }
     }
 }
@@ -342,10 +342,10 @@ fn put_all(values: &[i64], present: &[u8], out: &mut [u8])
     let mut last = ORIGIN;
     let mut i: usize = 0;
     while i < values.len() {
-        let piece = piece_at(values, present, i, last);
-        at = put_piece(values, present, i, piece, last, out, at);
-        last = piece_last(values, present, i, piece, last);
-        i = piece_end(piece);
+        let stretch = stretch_at(values, present, i, last);
+        at = put_stretch(values, present, i, stretch, last, out, at);
+        last = stretch_last(values, present, i, stretch, last);
+        i = stretch_end(stretch);
     }
 }
 

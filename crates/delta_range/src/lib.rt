@@ -8,7 +8,7 @@ ghost use lib.IntN.{pos};
 ghost use lib.ListN.{length, take, drop};
 ghost use lib.Seq.{paste};
 ghost use Rattle.leb128.specs.Answer.{done};
-ghost use Rattle.encoding.specs.Answers.{answerOf};
+ghost use Rattle.encoding.specs.Cases.{answerOf};
 ghost use Rattle.encoding.specs.Given.{given, slotList};
 ghost use Rattle.encoding.specs.Slots.{slotOf, flagOf, Decoded};
 ghost use Rattle.delta_decoder.specs.Sums.{deltaTrace};

@@ -18,9 +18,9 @@ use Rattle.leb128.proofs.Laws.{u64-back, i64-back, i64-short}
 use Rattle.encoding.specs.Limit.{limit}
 use Rattle.encoding.specs.Walk.{Run, over, on, whole, stop, Trace, Ending, walk, before, after}
 use Rattle.encoding.specs.Element.{Element}
-use Rattle.encoding.specs.Head.{again, singly, gone, amiss, judged, goneHead, begun, headAt}
-use Rattle.encoding.specs.Column.{Reading, absent, present, value, Spot, spot, ahead, single, singles, opened, runAt, traceFrom, trace}
-use Rattle.encoding.specs.Stretches.{Stretch, gap, run, row, stretches}
+use Rattle.encoding.specs.Head.{Head, amiss, judged, absentHead, begun, headAt}
+use Rattle.encoding.specs.Column.{Reading, absent, present, value, Spot, spot, ahead, literalNext, literals, runOf, runAt, traceFrom, trace}
+use Rattle.encoding.specs.Stretches.{Stretch, stretches}
 use Rattle.encoding.specs.Longest.{readingsIn, readingsOf, Longest}
 use Rattle.encoding.specs.Writer.{allBytes, stretchBytes, stretchesBytes, anyPresent, columnBytes}
 use Rattle.encoding.proofs.Lists.{map-append, map-replicate}
@@ -51,9 +51,9 @@ ListFits E (some a ∷ xs) = (E .fits a ≡ true) × ListFits E xs
 
 -- and so in each stretch of a longest cut, which has a reading at least
 abbrev Fit : {A : Type 0} → Element A → Stretch A → Type 0
-Fit E (gap n) = Unit {0}
-Fit E (run n a) = (0 < n) × (E .fits a ≡ true)
-Fit E (row a more) = AllFit E (a ∷ more)
+Fit E (Stretch.absent n) = Unit {0}
+Fit E (Stretch.repeat n a) = (0 < n) × (E .fits a ≡ true)
+Fit E (Stretch.literal a more) = AllFit E (a ∷ more)
 
 abbrev FitAll : {A : Type 0} → Element A → List (Stretch A) → Type 0
 FitAll E [] = Unit {0}
@@ -68,17 +68,17 @@ module _ {A : Type 0} (E : Element A) where
   fits-some zero a xs h = h
   fits-some (suc n) a xs h = fits-some n a xs (h .1)
 
-  fits-row : (l : List A) (xs : List (Option A)) → ListFits E (map some l ++ xs) → AllFit E l × ListFits E xs
-  fits-row [] xs h = (tt, h)
-  fits-row (a ∷ l) xs h = let k = fits-row l xs (h .1) in ((h .0, k .0), k .1)
+  fits-literal : (l : List A) (xs : List (Option A)) → ListFits E (map some l ++ xs) → AllFit E l × ListFits E xs
+  fits-literal [] xs h = (tt, h)
+  fits-literal (a ∷ l) xs h = let k = fits-literal l xs (h .1) in ((h .0, k .0), k .1)
 
   fit-all : (ss : List (Stretch A)) → Longest ss → ListFits E (readingsOf ss) → FitAll E ss
   unfolding readingsOf readingsIn
   fit-all [] h f = tt
-  fit-all (gap n ∷ r) h f = (tt, fit-all r (h .2) (fits-none n (readingsOf r) f))
-  fit-all (run zero a ∷ r) h f = absurd (omega arith)
-  fit-all (run (suc n) a ∷ r) h f = ((omega arith, f .0), fit-all r (h .2) (fits-some n a (readingsOf r) (f .1)))
-  fit-all (row a more ∷ r) h f = let k = fits-row (a ∷ more) (readingsOf r) f in (k .0, fit-all r (h .2) (k .1))
+  fit-all (Stretch.absent n ∷ r) h f = (tt, fit-all r (h .2) (fits-none n (readingsOf r) f))
+  fit-all (Stretch.repeat zero a ∷ r) h f = absurd (omega arith)
+  fit-all (Stretch.repeat (suc n) a ∷ r) h f = ((omega arith, f .0), fit-all r (h .2) (fits-some n a (readingsOf r) (f .1)))
+  fit-all (Stretch.literal a more ∷ r) h f = let k = fits-literal (a ∷ more) (readingsOf r) f in (k .0, fit-all r (h .2) (k .1))
 
 -- ---- a stretch's bytes read as its run
 
@@ -93,16 +93,16 @@ abbrev Reads : {A : Type 0} → Run (Reading A) Spot → ℕ → ℕ → List (O
 Reads {A} r p n xs = (rs : List (Reading A)) × (r ≡ whole rs (spot p (n + length xs))) × (map value rs ≡ xs)
 
 module _ {A : Type 0} (E : Element A) (L : ElementLaws E) (s : List ℕ) where
-  singles-back : (total q : ℕ) (l : List A) → AllFit E l → Stands s q (allBytes E l)
-      → (rs : List (Reading A)) × (singles E s total (length l) q ≡ whole rs (spot (q + length (allBytes E l)) total)) × (map value rs ≡ map some l)
-  unfolding singles single allBytes value
-  singles-back total q [] f h = ([], ap (λ (k : ℕ). whole [] (spot k total)) (sym (add-zero q)), refl)
-  singles-back total q (a ∷ l) f h =
+  literals-back : (total q : ℕ) (l : List A) → AllFit E l → Stands s q (allBytes E l)
+      → (rs : List (Reading A)) × (literals E s total (length l) q ≡ whole rs (spot (q + length (allBytes E l)) total)) × (map value rs ≡ map some l)
+  unfolding literals literalNext allBytes value
+  literals-back total q [] f h = ([], ap (λ (k : ℕ). whole [] (spot k total)) (sym (add-zero q)), refl)
+  literals-back total q (a ∷ l) f h =
       let q′ : ℕ = q + length (E .write a) in
       let e : E .read s q ≡ got a q′ = L .back s q a (f .0) (stands-left s q (E .write a) (allBytes E l) h) in
-      let ih = singles-back total q′ l (f .1) (stands-right s q (E .write a) (allBytes E l) h) in (
+      let ih = literals-back total q′ l (f .1) (stands-right s q (E .write a) (allBytes E l) h) in (
         present a q ∷ ih .0,
-        ap (λ (g : Got A). single q g (λ next. singles E s total (length l) next)) e
+        ap (λ (g : Got A). literalNext q g (λ next. literals E s total (length l) next)) e
             ∙ ap (λ (r : Run (Reading A) Spot). ahead (present a q) r) (ih .1)
             ∙ ap (λ (k : ℕ). whole (present a q ∷ ih .0) (spot k total))
             (add-assoc q (length (E .write a)) (length (allBytes E l)) ∙ ap (λ (k : ℕ). q + k) (sym (length-append (E .write a) (allBytes E l)))),
@@ -111,7 +111,7 @@ module _ {A : Type 0} (E : Element A) (L : ElementLaws E) (s : List ℕ) where
 
   -- the run that a count x begins, with w behind it
   head-back : (p n : ℕ) (x : ℤ) (w : List ℕ) → mag x < 2 ^ 63 → Stands s p (i64Bytes x ++ w)
-      → runAt E s (spot p n) ≡ opened E s n (begun s p n (got x (p + length (i64Bytes x))))
+      → runAt E s (spot p n) ≡ runOf E s n (begun s p n (got x (p + length (i64Bytes x))))
   unfolding headAt
   head-back p n x w f h =
       let hc = stands-left s p (i64Bytes x) w h in
@@ -120,38 +120,38 @@ module _ {A : Type 0} (E : Element A) (L : ElementLaws E) (s : List ℕ) where
 
   run-back : (p n : ℕ) (x : Stretch A) → Fit E x → n + length (readingsIn x) ≤ limit → Stands s p (stretchBytes E x)
       → Reads (runAt E s (spot p n)) (p + length (stretchBytes E x)) n (readingsIn x)
-  unfolding stretchBytes readingsIn opened begun goneHead value
-  run-back p n (gap k) f m h =
+  unfolding stretchBytes readingsIn runOf begun absentHead value
+  run-back p n (Stretch.absent k) f m h =
       let q : ℕ = p + length (i64Bytes (pos 0)) in
       let lk : length {A = Option A} (replicate k none) ≡ k = length-replicate k none in (
         replicate k absent,
         head-back p n (pos 0) (u64Bytes k) (omega arith) h
-            ∙ ap (λ (g : Got ℕ). opened E s n (goneHead n q g)) (u64-stands s q k (omega arith) (stands-right s p (i64Bytes (pos 0)) (u64Bytes k) h))
-            ∙ ap (λ (t : Bool). opened E s n (cond t (gone k (q + length (u64Bytes k))) (amiss 5 q))) (le-leb (n + k) limit (omega arith))
+            ∙ ap (λ (g : Got ℕ). runOf E s n (absentHead n q g)) (u64-stands s q k (omega arith) (stands-right s p (i64Bytes (pos 0)) (u64Bytes k) h))
+            ∙ ap (λ (t : Bool). runOf E s n (cond t (Head.absent k (q + length (u64Bytes k))) (amiss 5 q))) (le-leb (n + k) limit (omega arith))
             ∙ ap (λ (z : Spot). whole (replicate k absent) z) (spot-eq (join-sum p (i64Bytes (pos 0)) (u64Bytes k)) (ap (λ (j : ℕ). n + j) (sym lk))),
         map-replicate value k absent,
       )
-  run-back p n (run k a) f m h =
+  run-back p n (Stretch.repeat k a) f m h =
       let q : ℕ = p + length (i64Bytes (pos k)) in
       let lk : length (replicate k (some a)) ≡ k = length-replicate k (some a) in (
         replicate k (present a q),
         head-back p n (pos k) (E .write a) (omega arith) h
-            ∙ ap (λ (t : Bool). opened E s n (cond t (goneHead n q (u64At s q)) (judged n k p (again k q)))) (ne-eqb k 0 (λ e. omega arith))
-            ∙ ap (λ (t : Bool). opened E s n (cond t (again k q) (amiss 5 p))) (le-leb (n + k) limit (omega arith))
+            ∙ ap (λ (t : Bool). runOf E s n (cond t (absentHead n q (u64At s q)) (judged n k p (Head.repeat k q)))) (ne-eqb k 0 (λ e. omega arith))
+            ∙ ap (λ (t : Bool). runOf E s n (cond t (Head.repeat k q) (amiss 5 p))) (le-leb (n + k) limit (omega arith))
             ∙ repeated-got n k q _ a _ (L .back s q a (f .1) (stands-right s p (i64Bytes (pos k)) (E .write a) h))
             ∙ ap (λ (z : Spot). whole (replicate k (present a q)) z)
             (spot-eq (join-sum p (i64Bytes (pos k)) (E .write a)) (ap (λ (j : ℕ). n + j) (sym lk))),
         map-replicate value k (present a q),
       )
-  run-back p n (row a more) f m h =
+  run-back p n (Stretch.literal a more) f m h =
       let k : ℕ = suc (length more) in
       let x : ℤ = negsuc (length more) in
       let q : ℕ = p + length (i64Bytes x) in
       let lk : suc (length (map some more)) ≡ k = ap suc (length-map more some) in
-      let sb = singles-back (n + k) q (a ∷ more) f (stands-right s p (i64Bytes x) (allBytes E (a ∷ more)) h) in (
+      let sb = literals-back (n + k) q (a ∷ more) f (stands-right s p (i64Bytes x) (allBytes E (a ∷ more)) h) in (
         sb .0,
         head-back p n x (allBytes E (a ∷ more)) (omega arith) h
-            ∙ ap (λ (t : Bool). opened E s n (cond t (singly k q) (amiss 5 p))) (le-leb (n + k) limit (omega arith))
+            ∙ ap (λ (t : Bool). runOf E s n (cond t (Head.literal k q) (amiss 5 p))) (le-leb (n + k) limit (omega arith))
             ∙ sb .1
             ∙ ap (λ (z : Spot). whole (sb .0) z)
             (spot-eq (join-sum p (i64Bytes x) (allBytes E (a ∷ more))) (ap (λ (j : ℕ). n + j) (sym lk))),

@@ -15,8 +15,8 @@ use Rattle.leb128.proofs.Laws.{u64-next, i64-next}
 use Rattle.encoding.specs.Limit.{limit}
 use Rattle.encoding.specs.Walk.{Run, Next, over, on, off, stop, whole, cut}
 use Rattle.encoding.specs.Element.{Element}
-use Rattle.encoding.specs.Head.{Head, again, singly, gone, amiss, judged, goneHead, begun, headAt}
-use Rattle.encoding.specs.Column.{Reading, present, Spot, spot, repeated, ahead, single, singles, opened, runAt, traceFrom, trace}
+use Rattle.encoding.specs.Head.{Head, amiss, judged, absentHead, begun, headAt}
+use Rattle.encoding.specs.Column.{Reading, present, Spot, spot, repeated, ahead, literalNext, literals, runOf, runAt, traceFrom, trace}
 use Rattle.encoding.proofs.Lists.{cond-by}
 use Rattle.encoding.proofs.Elements.{ElementLaws}
 use Rattle.encoding.proofs.Walking.{Machine, rest}
@@ -44,26 +44,26 @@ Sane len p n r = SaneNext len p (n + length (r .readings)) (r .next)
 
 -- how a run begins: behind p, within len, within the limit
 abbrev pub SaneHead : ℕ → ℕ → ℕ → Head → Type 0
-SaneHead len p n (again c q) = (p < q) × (q ≤ len) × (n + c ≤ limit)
-SaneHead len p n (singly c q) = (p < q) × (q ≤ len) × (n + c ≤ limit)
-SaneHead len p n (gone c q) = (p < q) × (q ≤ len) × (n + c ≤ limit)
+SaneHead len p n (Head.repeat c q) = (p < q) × (q ≤ len) × (n + c ≤ limit)
+SaneHead len p n (Head.literal c q) = (p < q) × (q ≤ len) × (n + c ≤ limit)
+SaneHead len p n (Head.absent c q) = (p < q) × (q ≤ len) × (n + c ≤ limit)
 SaneHead len p n (amiss number place) = Unit {0}
 
 sane-judged : (len p n c place : ℕ) (h : Head) → (n + c ≤ limit → SaneHead len p n h) → SaneHead len p n (judged n c place h)
 sane-judged len p n c place h k = cond-by (SaneHead len p n) (leb (n + c) limit) (λ e. k (leb-true (n + c) limit e)) (λ e. tt)
 
-sane-gone : (len p n q : ℕ) (g : Got ℕ) → p < q → Near len q g → SaneHead len p n (goneHead n q g)
-unfolding goneHead
-sane-gone len p n q (got c z) l h = sane-judged len p n c q (gone c z) (λ m. (omega arith, h .1, m))
-sane-gone len p n q (bad number place) l h = tt
+sane-absent : (len p n q : ℕ) (g : Got ℕ) → p < q → Near len q g → SaneHead len p n (absentHead n q g)
+unfolding absentHead
+sane-absent len p n q (got c z) l h = sane-judged len p n c q (Head.absent c z) (λ m. (omega arith, h .1, m))
+sane-absent len p n q (bad number place) l h = tt
 
 sane-begun : (s : List ℕ) (p n : ℕ) (g : Got ℤ) → Near (length s) p g → SaneHead (length s) p n (begun s p n g)
 unfolding begun
 sane-begun s p n (got (pos c) q) h =
     cond-by (SaneHead (length s) p n) (eqb c 0)
-    (λ e. sane-gone (length s) p n q (u64At s q) (h .0) (near u64At s q (λ z v f. u64-next s q v z f)))
-    (λ e. sane-judged (length s) p n c p (again c q) (λ m. (h .0, h .1, m)))
-sane-begun s p n (got (negsuc c) q) h = sane-judged (length s) p n (suc c) p (singly (suc c) q) (λ m. (h .0, h .1, m))
+    (λ e. sane-absent (length s) p n q (u64At s q) (h .0) (near u64At s q (λ z v f. u64-next s q v z f)))
+    (λ e. sane-judged (length s) p n c p (Head.repeat c q) (λ m. (h .0, h .1, m)))
+sane-begun s p n (got (negsuc c) q) h = sane-judged (length s) p n (suc c) p (Head.literal (suc c) q) (λ m. (h .0, h .1, m))
 sane-begun s p n (bad number place) h = tt
 
 head-sane : (s : List ℕ) (p n : ℕ) → SaneHead (length s) p n (headAt s p n)
@@ -90,23 +90,23 @@ module _ {A : Type 0} (E : Element A) (L : ElementLaws E) (s : List ℕ) where
       go (on z) h = (omega arith, h .1, h .2 ∙ omega arith, h .3)
       go (off number place) h = tt
 
-  sane-singles : (total p n c q : ℕ) → p < q → q ≤ length s → n + c ≡ total → total ≤ limit → Sane (length s) p n (singles E s total c q)
-  unfolding singles single
-  sane-singles total p n zero q l w e m = (l, w, omega arith, m)
-  sane-singles total p n (suc c) q l w e m =
-      go (E .read s q) (read-near q) (λ z l′ w′. sane-singles total q (suc n) c z l′ w′ (omega arith) m)
+  sane-literals : (total p n c q : ℕ) → p < q → q ≤ length s → n + c ≡ total → total ≤ limit → Sane (length s) p n (literals E s total c q)
+  unfolding literals literalNext
+  sane-literals total p n zero q l w e m = (l, w, omega arith, m)
+  sane-literals total p n (suc c) q l w e m =
+      go (E .read s q) (read-near q) (λ z l′ w′. sane-literals total q (suc n) c z l′ w′ (omega arith) m)
     where
       go : (g : Got A) → Near (length s) q g
-          → ((z : ℕ) → q < z → z ≤ length s → Sane (length s) q (suc n) (singles E s total c z))
-          → Sane (length s) p n (single q g (λ z. singles E s total c z))
-      go (got a z) h k = sane-ahead p q n (present a q) (singles E s total c z) l (k z (h .0) (h .1))
+          → ((z : ℕ) → q < z → z ≤ length s → Sane (length s) q (suc n) (literals E s total c z))
+          → Sane (length s) p n (literalNext q g (λ z. literals E s total c z))
+      go (got a z) h k = sane-ahead p q n (present a q) (literals E s total c z) l (k z (h .0) (h .1))
       go (bad number place) h k = tt
 
-  sane-opened : (p n : ℕ) (h : Head) → SaneHead (length s) p n h → Sane (length s) p n (opened E s n h)
-  unfolding opened
-  sane-opened p n (again c q) h = sane-repeated p n c q (E .read s q) (h .0) (h .2) (read-near q)
-  sane-opened p n (singly c q) h = sane-singles (n + c) p n c q (h .0) (h .1) refl (h .2)
-  sane-opened p n (gone c q) h = (h .0, h .1, ap (λ (k : ℕ). n + k) (sym (length-replicate c _)), h .2)
+  sane-opened : (p n : ℕ) (h : Head) → SaneHead (length s) p n h → Sane (length s) p n (runOf E s n h)
+  unfolding runOf
+  sane-opened p n (Head.repeat c q) h = sane-repeated p n c q (E .read s q) (h .0) (h .2) (read-near q)
+  sane-opened p n (Head.literal c q) h = sane-literals (n + c) p n c q (h .0) (h .1) refl (h .2)
+  sane-opened p n (Head.absent c q) h = (h .0, h .1, ap (λ (k : ℕ). n + k) (sym (length-replicate c _)), h .2)
   sane-opened p n (amiss number place) h = tt
 
   sane-run : (st : Spot) → Sane (length s) (st .at) (st .had) (runAt E s st)
@@ -137,14 +137,14 @@ module _ {A : Type 0} (E : Element A) (L : ElementLaws E) (s : List ℕ) where
 -- ---- a run by how it begins
 
 module _ {A : Type 0} (E : Element A) (s : List ℕ) (p n : ℕ) where
-  pub run-head : (h : Head) → p < length s → headAt s p n ≡ h → runAt E s (spot p n) ≡ opened E s n h
+  pub run-head : (h : Head) → p < length s → headAt s p n ≡ h → runAt E s (spot p n) ≡ runOf E s n h
   unfolding runAt
   run-head h l e =
-      ap (λ (t : Bool). cond t (opened E s n (headAt s p n)) stop) (lt-ltb p (length s) l) ∙ ap (λ (h : Head). opened E s n h) e
+      ap (λ (t : Bool). cond t (runOf E s n (headAt s p n)) stop) (lt-ltb p (length s) l) ∙ ap (λ (h : Head). runOf E s n h) e
 
   pub run-end : length s ≤ p → runAt E s (spot p n) ≡ stop
   unfolding runAt
-  run-end l = ap (λ (t : Bool). cond t (opened E s n (headAt s p n)) stop) (le-ltb p (length s) l)
+  run-end l = ap (λ (t : Bool). cond t (runOf E s n (headAt s p n)) stop) (le-ltb p (length s) l)
 
 -- a repeated run, by its value
 pub repeated-got : {A : Type 0} (n c q z : ℕ) (a : A) (g : Got A) → g ≡ got a z → repeated n c q g ≡ whole (replicate c (present a q)) (spot z (n + c))
@@ -157,23 +157,23 @@ repeated-bad n c q number place g e = ap (λ g. repeated n c q g) e
 
 -- values that stand singly, one by one
 module _ {A : Type 0} (E : Element A) (s : List ℕ) (total : ℕ) where
-  singles-pos : (c q : ℕ) → 0 < c → singles E s total c q ≡ single q (E .read s q) (λ z. singles E s total (c - 1) z)
-  unfolding singles
-  singles-pos zero q l = absurd (omega arith)
-  singles-pos (suc c) q l =
+  literals-pos : (c q : ℕ) → 0 < c → literals E s total c q ≡ literalNext q (E .read s q) (λ z. literals E s total (c - 1) z)
+  unfolding literals
+  literals-pos zero q l = absurd (omega arith)
+  literals-pos (suc c) q l =
       let e : c ≡ suc c - 1 = omega arith in
-      ap (λ (k : ℕ). single q (E .read s q) (λ z. singles E s total k z)) e
+      ap (λ (k : ℕ). literalNext q (E .read s q) (λ z. literals E s total k z)) e
 
-  pub singles-none : (c q : ℕ) → c ≤ 0 → singles E s total c q ≡ whole [] (spot q total)
-  unfolding singles
-  singles-none zero q l = refl
-  singles-none (suc c) q l = absurd (omega arith)
+  pub literals-none : (c q : ℕ) → c ≤ 0 → literals E s total c q ≡ whole [] (spot q total)
+  unfolding literals
+  literals-none zero q l = refl
+  literals-none (suc c) q l = absurd (omega arith)
 
   -- a value was read: it comes first, and the run goes on behind it
-  pub singles-on : (c q z : ℕ) (a : A) → 0 < c → E .read s q ≡ got a z → singles E s total c q ≡ ahead (present a q) (singles E s total (c - 1) z)
-  unfolding single
-  singles-on c q z a l e = singles-pos c q l ∙ ap (λ (g : Got A). single q g (λ z. singles E s total (c - 1) z)) e
+  pub literals-on : (c q z : ℕ) (a : A) → 0 < c → E .read s q ≡ got a z → literals E s total c q ≡ ahead (present a q) (literals E s total (c - 1) z)
+  unfolding literalNext
+  literals-on c q z a l e = literals-pos c q l ∙ ap (λ (g : Got A). literalNext q g (λ z. literals E s total (c - 1) z)) e
 
-  pub singles-off : (c q number place : ℕ) → 0 < c → E .read s q ≡ bad number place → singles E s total c q ≡ cut number place
-  unfolding single
-  singles-off c q number place l e = singles-pos c q l ∙ ap (λ (g : Got A). single q g (λ z. singles E s total (c - 1) z)) e
+  pub literals-off : (c q number place : ℕ) → 0 < c → E .read s q ≡ bad number place → literals E s total c q ≡ cut number place
+  unfolding literalNext
+  literals-off c q number place l e = literals-pos c q l ∙ ap (λ (g : Got A). literalNext q g (λ z. literals E s total (c - 1) z)) e

@@ -12,8 +12,8 @@ use Rattle.leb128.proofs.Faults.{u64-fault, i64-fault}
 use Rattle.encoding.specs.Limit.{limit}
 use Rattle.encoding.specs.Walk.{Ending, sound, fault, Run, Next, over, on, off, Trace, walk, after}
 use Rattle.encoding.specs.Element.{Element}
-use Rattle.encoding.specs.Head.{Head, again, singly, gone, amiss, goneHead, begun, headAt}
-use Rattle.encoding.specs.Column.{Reading, Spot, spot, repeated, single, singles, opened, runAt, traceFrom, trace}
+use Rattle.encoding.specs.Head.{Head, amiss, absentHead, begun, headAt}
+use Rattle.encoding.specs.Column.{Reading, Spot, spot, repeated, literalNext, literals, runOf, runAt, traceFrom, trace}
 use Rattle.encoding.proofs.Lists.{cond-by}
 
 abbrev pub Numbered : Ending → Type 0
@@ -39,20 +39,20 @@ module _ {R S : Type 0} (run : S → Run R S) (some : (st : S) → SomeOff (run 
 
 -- ---- how a run begins
 abbrev SomeAmiss : Head → Type 0
-SomeAmiss (again c q) = Unit {0}
-SomeAmiss (singly c q) = Unit {0}
-SomeAmiss (gone c q) = Unit {0}
+SomeAmiss (Head.repeat c q) = Unit {0}
+SomeAmiss (Head.literal c q) = Unit {0}
+SomeAmiss (Head.absent c q) = Unit {0}
 SomeAmiss (amiss number place) = 0 < number
 
-gone-some : (s : List ℕ) (had q : ℕ) (g : Got ℕ) → u64At s q ≡ g → SomeAmiss (goneHead had q g)
-unfolding goneHead
-gone-some s had q (got c next) e = cond-by SomeAmiss (leb (had + c) limit) (λ h. tt) (λ h. omega arith)
-gone-some s had q (bad number place) e = u64-fault s q number place e
+absent-some : (s : List ℕ) (had q : ℕ) (g : Got ℕ) → u64At s q ≡ g → SomeAmiss (absentHead had q g)
+unfolding absentHead
+absent-some s had q (got c next) e = cond-by SomeAmiss (leb (had + c) limit) (λ h. tt) (λ h. omega arith)
+absent-some s had q (bad number place) e = u64-fault s q number place e
 
 begun-some : (s : List ℕ) (at had : ℕ) (g : Got ℤ) → i64At s at ≡ g → SomeAmiss (begun s at had g)
 unfolding begun
 begun-some s at had (got (pos c) q) e =
-    cond-by SomeAmiss (eqb c 0) (λ h. gone-some s had q (u64At s q) refl) (λ h. cond-by SomeAmiss (leb (had + c) limit) (λ l. tt) (λ l. omega arith))
+    cond-by SomeAmiss (eqb c 0) (λ h. absent-some s had q (u64At s q) refl) (λ h. cond-by SomeAmiss (leb (had + c) limit) (λ l. tt) (λ l. omega arith))
 begun-some s at had (got (negsuc c) q) e = cond-by SomeAmiss (leb (had + suc c) limit) (λ l. tt) (λ l. omega arith)
 begun-some s at had (bad number place) e = i64-fault s at number place e
 
@@ -67,20 +67,20 @@ module _ {A : Type 0} (E : Element A) (s : List ℕ) (some : (p number place : �
   repeated-some had c q (got a next) e = tt
   repeated-some had c q (bad number place) e = some q number place e
 
-  singles-some : (total c q : ℕ) → SomeOff (singles E s total c q .next)
-  unfolding singles single
-  singles-some total zero q = tt
-  singles-some total (suc c) q = go (E .read s q) refl (λ z. singles-some total c z)
+  literals-some : (total c q : ℕ) → SomeOff (literals E s total c q .next)
+  unfolding literals literalNext
+  literals-some total zero q = tt
+  literals-some total (suc c) q = go (E .read s q) refl (λ z. literals-some total c z)
     where
-      go : (g : Got A) → E .read s q ≡ g → ((z : ℕ) → SomeOff (singles E s total c z .next)) → SomeOff (single q g (λ z. singles E s total c z) .next)
+      go : (g : Got A) → E .read s q ≡ g → ((z : ℕ) → SomeOff (literals E s total c z .next)) → SomeOff (literalNext q g (λ z. literals E s total c z) .next)
       go (got a z) e k = k z
       go (bad number place) e k = some q number place e
 
-  opened-some : (had : ℕ) (h : Head) → SomeAmiss h → SomeOff (opened E s had h .next)
-  unfolding opened
-  opened-some had (again c q) h = repeated-some had c q (E .read s q) refl
-  opened-some had (singly c q) h = singles-some (had + c) c q
-  opened-some had (gone c q) h = tt
+  opened-some : (had : ℕ) (h : Head) → SomeAmiss h → SomeOff (runOf E s had h .next)
+  unfolding runOf
+  opened-some had (Head.repeat c q) h = repeated-some had c q (E .read s q) refl
+  opened-some had (Head.literal c q) h = literals-some (had + c) c q
+  opened-some had (Head.absent c q) h = tt
   opened-some had (amiss number place) h = h
 
   run-some : (st : Spot) → SomeOff (runAt E s st .next)

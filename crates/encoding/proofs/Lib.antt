@@ -6,7 +6,7 @@ pub mod Faults
 pub mod Filling
 pub mod Lists
 pub mod Looking
-pub mod Pieces
+pub mod StretchParts
 pub mod Placing
 pub mod Presence
 pub mod Putting

@@ -37,16 +37,16 @@ module _ (p : List ℕ) (k : ℕ) where
   unfolding anyFlag
   any-end l = ap anyFlag (drop-of-length-le p l)
 
-  pub gap-more : k < length p → getD p k 0 ≡ 0 → k + zeros (drop k p) ≡ k + 1 + zeros (drop (k + 1) p)
+  pub absent-more : k < length p → getD p k 0 ≡ 0 → k + zeros (drop k p) ≡ k + 1 + zeros (drop (k + 1) p)
   unfolding zeros
-  gap-more l h =
+  absent-more l h =
       let e : zeros (drop k p) ≡ suc (zeros (drop (k + 1) p)) = ap zeros (drop-cons p k 0 l) ∙ simp (eq-eqb (getD p k 0) 0 h, add-one) in
       omega arith
 
-  pub gap-stop : k < length p → (getD p k 0 ≡ 0 → ⊥) → k + zeros (drop k p) ≡ k
+  pub absent-stop : k < length p → (getD p k 0 ≡ 0 → ⊥) → k + zeros (drop k p) ≡ k
   unfolding zeros
-  gap-stop l h = let e : zeros (drop k p) ≡ 0 = ap zeros (drop-cons p k 0 l) ∙ simp (ne-eqb (getD p k 0) 0 h) in omega arith
+  absent-stop l h = let e : zeros (drop k p) ≡ 0 = ap zeros (drop-cons p k 0 l) ∙ simp (ne-eqb (getD p k 0) 0 h) in omega arith
 
-  pub gap-over : length p ≤ k → k + zeros (drop k p) ≡ k
+  pub absent-over : length p ≤ k → k + zeros (drop k p) ≡ k
   unfolding zeros
-  gap-over l = let e : zeros (drop k p) ≡ 0 = ap zeros (drop-of-length-le p l) in omega arith
+  absent-over l = let e : zeros (drop k p) ≡ 0 = ap zeros (drop-of-length-le p l) in omega arith

@@ -1,4 +1,4 @@
--- The bytes of a given list as the writers' loops go through them: piece by piece, value by value, one part put behind another; and one law
+-- The bytes of a given list as the writers' loops go through them: stretch by stretch, value by value, one part put behind another; and one law
 -- for each way out of encoding a list. Assumes nothing.
 use Prim.Native.Nat.{ℕ, zero, suc, _+_, _-_, _*_, _≤_, _<_}
 use mathlib.Core.Path.{_≡_, refl, sym, _∙_, ap, subst}
@@ -19,10 +19,10 @@ use Rattle.encoding.specs.Element.{Element}
 use Rattle.encoding.specs.Stretches.{stretches}
 use Rattle.encoding.specs.Writer.{allBytes, stretchBytes, stretchesBytes, anyPresent, columnBytes}
 use Rattle.encoding.specs.Given.{slotList, badFlag, flagsJudged, listJudged, sized, Encoded}
-use Rattle.encoding.specs.Ahead.{from, bytesFrom, endOf, stretchOf, PieceAt, PutAt}
+use Rattle.encoding.specs.Ahead.{from, bytesFrom, endOf, stretchOf, StretchAt, PutAt}
 use Rattle.encoding.specs.Flags.{anyFlag, minus}
-use Rattle.encoding.specs.declared.Piece.{Piece}
-use Rattle.encoding.specs.declared.Piece.the-variants as piece
+use Rattle.encoding.specs.declared.StretchEnd.{StretchEnd}
+use Rattle.encoding.specs.declared.StretchEnd.the-variants as stretch
 use Rattle.encoding.proofs.Lists.{sets-append}
 use Rattle.encoding.proofs.Elements.{ElementLaws}
 use Rattle.encoding.proofs.Looking.{slot-past}
@@ -55,38 +55,38 @@ minus-some (suc n) h = let e : suc n - 1 ≡ n = omega arith in ap negsuc e
 -- ---- values of a row, one by one
 
 module _ {A : Type 0} (E : Element A) (d : A) where
-  pub row-bytes : (i k : ℕ) (v : List A) → i < k → k ≤ length v → allBytes E (slice i k v) ≡ E .write (getD v i d) ++ allBytes E (slice (i + 1) k v)
+  pub literal-bytes : (i k : ℕ) (v : List A) → i < k → k ≤ length v → allBytes E (slice i k v) ≡ E .write (getD v i d) ++ allBytes E (slice (i + 1) k v)
   unfolding allBytes
-  row-bytes i k v l h = ap (allBytes E) (slice-cons i k v d l h) ∙ ap (λ (j : ℕ). E .write (getD v i d) ++ allBytes E (slice j k v)) (sym (add-one i))
+  literal-bytes i k v l h = ap (allBytes E) (slice-cons i k v d l h) ∙ ap (λ (j : ℕ). E .write (getD v i d) ++ allBytes E (slice j k v)) (sym (add-one i))
 
-  pub row-over : (i k : ℕ) (v : List A) → i ≡ k → allBytes E (slice i k v) ≡ []
+  pub literal-over : (i k : ℕ) (v : List A) → i ≡ k → allBytes E (slice i k v) ≡ []
   unfolding allBytes
-  row-over i k v e = ap (λ (j : ℕ). allBytes E (slice j k v)) e ∙ ap (allBytes E) (slice-empty k v)
+  literal-over i k v e = ap (λ (j : ℕ). allBytes E (slice j k v)) e ∙ ap (allBytes E) (slice-empty k v)
 
-  pub row-length : (i k : ℕ) (v : List A) → i < k → k ≤ length v
+  pub literal-length : (i k : ℕ) (v : List A) → i < k → k ≤ length v
       → length (allBytes E (slice i k v)) ≡ length (E .write (getD v i d)) + length (allBytes E (slice (i + 1) k v))
-  row-length i k v l h = ap length (row-bytes i k v l h) ∙ length-append (E .write (getD v i d)) (allBytes E (slice (i + 1) k v))
+  literal-length i k v l h = ap length (literal-bytes i k v l h) ∙ length-append (E .write (getD v i d)) (allBytes E (slice (i + 1) k v))
 
-  -- a piece's run in its two parts: its count, and what the count announces
-  module _ (v : List A) (i k : ℕ) (x : Piece) where
-    pub gap-bytes : x ≡ piece.Gap k → i64Bytes (pos 0) ++ u64Bytes (k - i) ≡ stretchBytes E (stretchOf d v i x)
+  -- a stretch's run in its two parts: its count, and what the count announces
+  module _ (v : List A) (i k : ℕ) (x : StretchEnd) where
+    pub absent-bytes : x ≡ stretch.Absent k → i64Bytes (pos 0) ++ u64Bytes (k - i) ≡ stretchBytes E (stretchOf d v i x)
     unfolding stretchBytes
-    gap-bytes e = sym (ap (λ (y : Piece). stretchBytes E (stretchOf d v i y)) e)
+    absent-bytes e = sym (ap (λ (y : StretchEnd). stretchBytes E (stretchOf d v i y)) e)
 
-    pub run-bytes : x ≡ piece.Run k → i64Bytes (pos (k - i)) ++ E .write (getD v i d) ≡ stretchBytes E (stretchOf d v i x)
+    pub repeat-bytes : x ≡ stretch.Repeat k → i64Bytes (pos (k - i)) ++ E .write (getD v i d) ≡ stretchBytes E (stretchOf d v i x)
     unfolding stretchBytes
-    run-bytes e = sym (ap (λ (y : Piece). stretchBytes E (stretchOf d v i y)) e)
+    repeat-bytes e = sym (ap (λ (y : StretchEnd). stretchBytes E (stretchOf d v i y)) e)
 
-    pub rows-bytes : x ≡ piece.Row k → i < endOf x → endOf x ≤ length v
+    pub literals-bytes : x ≡ stretch.Literal k → i < endOf x → endOf x ≤ length v
         → i64Bytes (negsuc (k - i - 1)) ++ allBytes E (slice i k v) ≡ stretchBytes E (stretchOf d v i x)
     unfolding stretchBytes allBytes
-    rows-bytes e l h =
+    literals-bytes e l h =
         let z = ap endOf e in
         let n : length (slice (i + 1) k v) ≡ k - i - 1 = omega (arith, length-slice (i + 1) k v (omega arith)) in
         sym
-        (ap (λ (y : Piece). stretchBytes E (stretchOf d v i y)) e
+        (ap (λ (y : StretchEnd). stretchBytes E (stretchOf d v i y)) e
         ∙ ap (λ (m : ℕ). i64Bytes (negsuc m) ++ (E .write (getD v i d) ++ allBytes E (slice (i + 1) k v))) n
-        ∙ ap (λ (b : List ℕ). i64Bytes (negsuc (k - i - 1)) ++ b) (sym (row-bytes i k v (omega arith) (omega arith))))
+        ∙ ap (λ (b : List ℕ). i64Bytes (negsuc (k - i - 1)) ++ b) (sym (literal-bytes i k v (omega arith) (omega arith))))
 
 -- room for two parts is room for each
 pub both-fit : (w₁ w₂ w : List ℕ) (at n : ℕ) → w₁ ++ w₂ ≡ w → at + length w ≤ n → (at + length w₁ ≤ n) × (at + length w₁ + length w₂ ≤ n)
@@ -95,11 +95,11 @@ both-fit w₁ w₂ w at n e h = let z = ap length e in (omega (arith, length-app
 -- ---- the loops over stretches
 
 module _ {A : Type 0} (E : Element A) (d : A) (v : List A) (p : List ℕ) where
-  pub bytes-cut : (i : ℕ) (x : Piece) → PieceAt (E .same) d v p i x → bytesFrom E v p i ≡ stretchBytes E (stretchOf d v i x) ++ bytesFrom E v p (endOf x)
+  pub bytes-cut : (i : ℕ) (x : StretchEnd) → StretchAt (E .same) d v p i x → bytesFrom E v p i ≡ stretchBytes E (stretchOf d v i x) ++ bytesFrom E v p (endOf x)
   unfolding bytesFrom stretchesBytes
   bytes-cut i x h = ap (stretchesBytes E) (h .cuts)
 
-  pub bytes-length : (i : ℕ) (x : Piece) → PieceAt (E .same) d v p i x
+  pub bytes-length : (i : ℕ) (x : StretchEnd) → StretchAt (E .same) d v p i x
       → length (bytesFrom E v p i) ≡ length (stretchBytes E (stretchOf d v i x)) + length (bytesFrom E v p (endOf x))
   bytes-length i x h = ap length (bytes-cut i x h) ∙ length-append (stretchBytes E (stretchOf d v i x)) (bytesFrom E v p (endOf x))
 

@@ -8,8 +8,8 @@ use lib.Dec.{ltb}
 use Rattle.leb128.specs.Got.{Got, got, bad}
 use Rattle.encoding.specs.Walk.{Run, Next, over, on, off, Trace, walk, after}
 use Rattle.encoding.specs.Element.{Element}
-use Rattle.encoding.specs.Head.{Head, again, singly, gone, amiss, headAt}
-use Rattle.encoding.specs.Column.{Reading, absent, present, value, Spot, spot, repeated, single, singles, opened, runAt, traceFrom, trace}
+use Rattle.encoding.specs.Head.{Head, amiss, headAt}
+use Rattle.encoding.specs.Column.{Reading, absent, present, value, Spot, spot, repeated, literalNext, literals, runOf, runAt, traceFrom, trace}
 use Rattle.encoding.proofs.Lists.{cond-by}
 use Rattle.encoding.proofs.Elements.{ElementLaws}
 use Rattle.encoding.proofs.Back.{ListFits}
@@ -36,30 +36,30 @@ module _ {A : Type 0} (E : Element A) where
   fits-absent zero = tt
   fits-absent (suc c) = fits-absent c
 
-  fits-again : (c : ℕ) (a : A) (q : ℕ) → E .fits a ≡ true → Fits (replicate c (present a q))
-  fits-again zero a q f = tt
-  fits-again (suc c) a q f = (f, fits-again c a q f)
+  fits-repeat : (c : ℕ) (a : A) (q : ℕ) → E .fits a ≡ true → Fits (replicate c (present a q))
+  fits-repeat zero a q f = tt
+  fits-repeat (suc c) a q f = (f, fits-repeat c a q f)
 
   module _ (L : ElementLaws E) (s : List ℕ) (B : (i : ℕ) → getD s i 0 < 256) where
     repeated-fits : (n c q p : ℕ) (g : Got A) → E .read s p ≡ g → Fits (repeated n c q g .readings)
     unfolding repeated
-    repeated-fits n c q p (got a z) e = fits-again c a q (L .exact s B p z a e .1)
+    repeated-fits n c q p (got a z) e = fits-repeat c a q (L .exact s B p z a e .1)
     repeated-fits n c q p (bad number place) e = tt
 
-    singles-fits : (total c q : ℕ) → Fits (singles E s total c q .readings)
-    unfolding singles single
-    singles-fits total zero q = tt
-    singles-fits total (suc c) q = go (E .read s q) refl (λ z. singles-fits total c z)
+    literals-fits : (total c q : ℕ) → Fits (literals E s total c q .readings)
+    unfolding literals literalNext
+    literals-fits total zero q = tt
+    literals-fits total (suc c) q = go (E .read s q) refl (λ z. literals-fits total c z)
       where
-        go : (g : Got A) → E .read s q ≡ g → ((z : ℕ) → Fits (singles E s total c z .readings)) → Fits (single q g (λ z. singles E s total c z) .readings)
+        go : (g : Got A) → E .read s q ≡ g → ((z : ℕ) → Fits (literals E s total c z .readings)) → Fits (literalNext q g (λ z. literals E s total c z) .readings)
         go (got a z) e k = (L .exact s B q z a e .1, k z)
         go (bad number place) e k = tt
 
-    opened-fits : (n : ℕ) (h : Head) → Fits (opened E s n h .readings)
-    unfolding opened
-    opened-fits n (again c q) = repeated-fits n c q q (E .read s q) refl
-    opened-fits n (singly c q) = singles-fits (n + c) c q
-    opened-fits n (gone c q) = fits-absent c
+    opened-fits : (n : ℕ) (h : Head) → Fits (runOf E s n h .readings)
+    unfolding runOf
+    opened-fits n (Head.repeat c q) = repeated-fits n c q q (E .read s q) refl
+    opened-fits n (Head.literal c q) = literals-fits (n + c) c q
+    opened-fits n (Head.absent c q) = fits-absent c
     opened-fits n (amiss number place) = tt
 
     run-fits : (st : Spot) → Fits (runAt E s st .readings)

@@ -11,7 +11,7 @@ use Rattle.leb128.specs.Write.{u64Bytes, i64Bytes}
 use native.Mathlib.Decide.{decLt}
 use Rattle.leb128.proofs.Laws.{u64-short, i64-short, i64-one}
 use Rattle.encoding.specs.Element.{Element}
-use Rattle.encoding.specs.Stretches.{Stretch, gap, run, row, stretches}
+use Rattle.encoding.specs.Stretches.{Stretch, stretches}
 use Rattle.encoding.specs.Longest.{readingsIn, readingsOf, Longest}
 use Rattle.encoding.specs.Writer.{allBytes, stretchBytes, stretchesBytes, anyPresent, columnBytes}
 use Rattle.encoding.proofs.Elements.{ElementLaws}
@@ -30,36 +30,36 @@ module _ {A : Type 0} (E : Element A) (L : ElementLaws E) (short : (a : A) → l
   sum-short : (ss : List (Stretch A)) → Longest ss → length (stretchesBytes E ss) ≤ 11 * length (readingsOf ss)
   unfolding stretchesBytes stretchBytes readingsOf readingsIn
   sum-short [] h = omega arith
-  sum-short (gap n ∷ r) h =
+  sum-short (Stretch.absent n ∷ r) h =
       omega (
         arith,
         i64-one 0 (omega arith),
         u64-short n,
         length-replicate {A = Option A} n none,
         length-append (i64Bytes (pos 0)) (u64Bytes n),
-        length-append (stretchBytes E (gap n)) (stretchesBytes E r),
+        length-append (stretchBytes E (Stretch.absent n)) (stretchesBytes E r),
         length-append (replicate n none) (readingsOf r),
         sum-short r (h .2),
       )
-  sum-short (run n a ∷ r) h =
+  sum-short (Stretch.repeat n a ∷ r) h =
       omega (
         arith,
         i64-short (pos n),
         short a,
         length-replicate n (some a),
         length-append (i64Bytes (pos n)) (E .write a),
-        length-append (stretchBytes E (run n a)) (stretchesBytes E r),
+        length-append (stretchBytes E (Stretch.repeat n a)) (stretchesBytes E r),
         length-append (replicate n (some a)) (readingsOf r),
         sum-short r (h .2),
       )
-  sum-short (row a more ∷ r) h =
+  sum-short (Stretch.literal a more ∷ r) h =
       let m : length (map some more) ≡ length more = length-map more some in
       omega (
         arith,
         count-short (length more),
         all-short (a ∷ more),
         length-append (i64Bytes (negsuc (length more))) (allBytes E (a ∷ more)),
-        length-append (stretchBytes E (row a more)) (stretchesBytes E r),
+        length-append (stretchBytes E (Stretch.literal a more)) (stretchesBytes E r),
         length-append (map some (a ∷ more)) (readingsOf r),
         sum-short r (h .2),
       )

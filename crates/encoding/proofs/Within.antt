@@ -10,11 +10,11 @@ use lib.Dec.{eqb}
 use lib.ListN.{length, getD, drop, getD-replicate, length-replicate, length-map, List·getD-append}
 use lib.Seq.{getD-drop, slice, length-slice}
 use borrow.Author.Tests.{eq-eqb, eqb-true}
-use Rattle.encoding.specs.Ahead.{AllPresent, from, endOf, stretchOf, PieceAt}
+use Rattle.encoding.specs.Ahead.{AllPresent, from, endOf, stretchOf, StretchAt}
 use Rattle.encoding.specs.Given.{given, slotList}
 use Rattle.encoding.specs.Longest.{readingsIn, readingsOf}
-use Rattle.encoding.specs.declared.Piece.{Piece}
-use Rattle.encoding.specs.declared.Piece.the-variants as piece
+use Rattle.encoding.specs.declared.StretchEnd.{StretchEnd}
+use Rattle.encoding.specs.declared.StretchEnd.the-variants as stretch
 use Rattle.encoding.proofs.Cut.{cut-whole}
 
 slot-at : {A : Type 0} (d : A) (v : List A) (p : List ℕ) (j : ℕ) → j < length v → length p ≡ length v
@@ -40,14 +40,14 @@ given-none b x e = go (eqb b 0) refl e
 module _ {A : Type 0} (same : A → A → Bool) (same-eq : (a b : A) → same a b ≡ true → a ≡ b) (same-self : (a : A) → same a a ≡ true)
     (d : A) (v : List A) (p : List ℕ) (even : length p ≡ length v) (i : ℕ) where
   -- the readings of the stretch stand at its indices
-  covered : (x : Piece) → PieceAt same d v p i x → drop i (slotList v p) ≡ readingsIn (stretchOf d v i x) ++ drop (endOf x) (slotList v p)
+  covered : (x : StretchEnd) → StretchAt same d v p i x → drop i (slotList v p) ≡ readingsIn (stretchOf d v i x) ++ drop (endOf x) (slotList v p)
   unfolding from readingsOf
   covered x h =
       sym (cut-whole same same-eq same-self (drop i (slotList v p)))
       ∙ ap readingsOf (h .cuts)
       ∙ ap (λ (r : List (Option A)). readingsIn (stretchOf d v i x) ++ r) (cut-whole same same-eq same-self (drop (endOf x) (slotList v p)))
 
-  covered-at : (x : Piece) → PieceAt same d v p i x → length (readingsIn (stretchOf d v i x)) ≡ endOf x - i
+  covered-at : (x : StretchEnd) → StretchAt same d v p i x → length (readingsIn (stretchOf d v i x)) ≡ endOf x - i
       → (j : ℕ) → i ≤ j → j < endOf x → given (getD p j 0) (getD v j d) ≡ getD (readingsIn (stretchOf d v i x)) (j - i) none
   covered-at x h n j f g =
       let w = h .within in
@@ -58,29 +58,29 @@ module _ {A : Type 0} (same : A → A → Bool) (same-eq : (a b : A) → same a 
       ∙ ap (λ (l : List (Option A)). getD l (j - i) none) (covered x h)
       ∙ List·getD-append (readingsIn (stretchOf d v i x)) (drop (endOf x) (slotList v p)) none (j - i) (omega arith)
 
-  pub gap-absent : {k : ℕ} → PieceAt same d v p i (piece.Gap k) → (j : ℕ) → i ≤ j → j < k → getD p j 0 ≡ 0
+  pub absent-here : {k : ℕ} → StretchAt same d v p i (stretch.Absent k) → (j : ℕ) → i ≤ j → j < k → getD p j 0 ≡ 0
   unfolding readingsIn
-  gap-absent {k} h j f g =
+  absent-here {k} h j f g =
       given-none (getD p j 0) (getD v j d)
-      (covered-at (piece.Gap k) h (length-replicate (k - i) none) j f g ∙ getD-replicate (k - i) (j - i) none none (omega arith))
+      (covered-at (stretch.Absent k) h (length-replicate (k - i) none) j f g ∙ getD-replicate (k - i) (j - i) none none (omega arith))
 
-  present-at : (x : Piece) → PieceAt same d v p i x → length (readingsIn (stretchOf d v i x)) ≡ endOf x - i
+  present-at : (x : StretchEnd) → StretchAt same d v p i x → length (readingsIn (stretchOf d v i x)) ≡ endOf x - i
       → ((m : ℕ) → m < endOf x - i → getD (readingsIn (stretchOf d v i x)) m none ≡ none → ⊥) → AllPresent p i (endOf x)
   present-at x h n there j f g e =
       let z : none ≡ given (getD p j 0) (getD v j d) = rw (eq-eqb (getD p j 0) 0 e) in
       there (j - i) (omega arith) (sym (z ∙ covered-at x h n j f g))
 
-  pub run-present : {k : ℕ} → PieceAt same d v p i (piece.Run k) → AllPresent p i k
+  pub repeat-present : {k : ℕ} → StretchAt same d v p i (stretch.Repeat k) → AllPresent p i k
   unfolding readingsIn
-  run-present {k} h =
-      present-at (piece.Run k) h (length-replicate (k - i) (some (getD v i d)))
+  repeat-present {k} h =
+      present-at (stretch.Repeat k) h (length-replicate (k - i) (some (getD v i d)))
       (λ m l e. let z : some (getD v i d) ≡ none = sym (getD-replicate (k - i) m (some (getD v i d)) none l) ∙ e in let y : _≡_ {A = ℕ} 0 1 = cc in omega arith)
 
-  pub row-present : {k : ℕ} → PieceAt same d v p i (piece.Row k) → AllPresent p i k
+  pub literal-present : {k : ℕ} → StretchAt same d v p i (stretch.Literal k) → AllPresent p i k
   unfolding readingsIn
-  row-present {k} h =
+  literal-present {k} h =
       let l = h .later in
       let w = h .within in
       let a = getD v i d ∷ slice (i + 1) k v in
       let n : length a ≡ k - i = omega (arith, length-slice (i + 1) k v (omega arith)) in
-      present-at (piece.Row k) h (length-map a some ∙ n) (λ m l e. values-there a m (omega arith) e)
+      present-at (stretch.Literal k) h (length-map a some ∙ n) (λ m l e. values-there a m (omega arith) e)

@@ -8,7 +8,7 @@ use lib.Dec.{ltb}
 use Rattle.leb128.specs.Got.{Got, got, bad}
 use Rattle.encoding.specs.Walk.{Run, stop, whole, cut, Trace, walk}
 use Rattle.encoding.specs.Element.{Element}
-use Rattle.encoding.specs.Head.{Head, again, singly, gone, amiss, headAt}
+use Rattle.encoding.specs.Head.{Head, amiss, headAt}
 
 -- a reading: absent, or a value with the place of its number
 pub data Reading (A : Type 0) : Type 0 where
@@ -36,24 +36,24 @@ repeated had c q (bad number place) = cut number place
 abbrev pub ahead : {R S : Type 0} → R → Run R S → Run R S
 ahead x r = record { readings = x ∷ r .readings; next = r .next }
 
-unfoldable pub single : {A : Type 0} → ℕ → Got A → (ℕ → Run (Reading A) Spot) → Run (Reading A) Spot
-single q (got a next) k = ahead (present a q) (k next)
-single q (bad number place) k = cut number place
+unfoldable pub literalNext : {A : Type 0} → ℕ → Got A → (ℕ → Run (Reading A) Spot) → Run (Reading A) Spot
+literalNext q (got a next) k = ahead (present a q) (k next)
+literalNext q (bad number place) k = cut number place
 
 -- c more of them from q on; `total` is the number of readings after the run
-unfoldable pub singles : {A : Type 0} → Element A → List ℕ → ℕ → ℕ → ℕ → Run (Reading A) Spot
-singles E s total zero q = whole [] (spot q total)
-singles E s total (suc c) q = single q (E .read s q) (λ next. singles E s total c next)
+unfoldable pub literals : {A : Type 0} → Element A → List ℕ → ℕ → ℕ → ℕ → Run (Reading A) Spot
+literals E s total zero q = whole [] (spot q total)
+literals E s total (suc c) q = literalNext q (E .read s q) (λ next. literals E s total c next)
 
 -- the run that begins so
-unfoldable pub opened : {A : Type 0} → Element A → List ℕ → ℕ → Head → Run (Reading A) Spot
-opened E s had (again c q) = repeated had c q (E .read s q)
-opened E s had (singly c q) = singles E s (had + c) c q
-opened E s had (gone c next) = whole (replicate c absent) (spot next (had + c))
-opened E s had (amiss number place) = cut number place
+unfoldable pub runOf : {A : Type 0} → Element A → List ℕ → ℕ → Head → Run (Reading A) Spot
+runOf E s had (Head.repeat c q) = repeated had c q (E .read s q)
+runOf E s had (Head.literal c q) = literals E s (had + c) c q
+runOf E s had (Head.absent c next) = whole (replicate c absent) (spot next (had + c))
+runOf E s had (amiss number place) = cut number place
 
 unfoldable pub runAt : {A : Type 0} → Element A → List ℕ → Spot → Run (Reading A) Spot
-runAt E s st = cond (ltb (st .at) (length s)) (opened E s (st .had) (headAt s (st .at) (st .had))) stop
+runAt E s st = cond (ltb (st .at) (length s)) (runOf E s (st .had) (headAt s (st .at) (st .had))) stop
 
 -- the rest of a column from a state on, and the whole column
 unfoldable pub traceFrom : {A : Type 0} → Element A → List ℕ → Spot → Trace (Reading A)

@@ -12,9 +12,9 @@ use Rattle.encoding.specs.Limit.{limit}
 -- so many times the value at a position; so many values singly from a position on; so many absent readings, with the position behind
 -- them; or a refusal's number and place
 pub data Head : Type 0 where
-  again : ℕ → ℕ → Head
-  singly : ℕ → ℕ → Head
-  gone : ℕ → ℕ → Head
+  repeat : ℕ → ℕ → Head
+  literal : ℕ → ℕ → Head
+  absent : ℕ → ℕ → Head
   amiss : ℕ → ℕ → Head
 
 -- "A count is judged for 5 when read, before its values": had readings came before, c more are announced by the number at a place
@@ -22,13 +22,13 @@ abbrev pub judged : ℕ → ℕ → ℕ → Head → Head
 judged had c place h = cond (leb (had + c) limit) h (amiss 5 place)
 
 -- the second number of an absent run stands at q
-unfoldable pub goneHead : ℕ → ℕ → Got ℕ → Head
-goneHead had q (got c next) = judged had c q (gone c next)
-goneHead had q (bad number place) = amiss number place
+unfoldable pub absentHead : ℕ → ℕ → Got ℕ → Head
+absentHead had q (got c next) = judged had c q (Head.absent c next)
+absentHead had q (bad number place) = amiss number place
 
 unfoldable pub begun : List ℕ → ℕ → ℕ → Got ℤ → Head
-begun s at had (got (pos c) q) = cond (eqb c 0) (goneHead had q (u64At s q)) (judged had c at (again c q))
-begun s at had (got (negsuc c) q) = judged had (suc c) at (singly (suc c) q)
+begun s at had (got (pos c) q) = cond (eqb c 0) (absentHead had q (u64At s q)) (judged had c at (Head.repeat c q))
+begun s at had (got (negsuc c) q) = judged had (suc c) at (Head.literal (suc c) q)
 begun s at had (bad number place) = amiss number place
 
 -- how the run at a position begins, before which there are `had` readings

@@ -1,5 +1,5 @@
 pub mod Ahead
-pub mod Answers
+pub mod Cases
 pub mod Column
 pub mod Element
 pub mod Flags

@@ -5,13 +5,13 @@ use mathlib.Core.Path.{_≡_}
 use mathlib.Core.List.{List, [], _∷_, _++_, map}
 use mathlib.Core.Option.{Option, none, some}
 use lib.ListN.{replicate}
-use Rattle.encoding.specs.Stretches.{Stretch, gap, run, row}
+use Rattle.encoding.specs.Stretches.{Stretch}
 
 -- the list that a cut stands for
 unfoldable pub readingsIn : {A : Type 0} → Stretch A → List (Option A)
-readingsIn (gap n) = replicate n none
-readingsIn (run n a) = replicate n (some a)
-readingsIn (row a more) = map some (a ∷ more)
+readingsIn (Stretch.absent n) = replicate n none
+readingsIn (Stretch.repeat n a) = replicate n (some a)
+readingsIn (Stretch.literal a more) = map some (a ∷ more)
 
 unfoldable pub readingsOf : {A : Type 0} → List (Stretch A) → List (Option A)
 readingsOf [] = []
@@ -23,21 +23,21 @@ Unlike x [] = Unit {0}
 Unlike x (y ∷ after) = x ≡ y → ⊥
 
 -- no value equals the reading directly after it, be that the next value or what comes behind the last one
-abbrev pub Singly : {A : Type 0} → List A → List (Option A) → Type 0
-Singly [] after = Unit {0}
-Singly (a ∷ more) after = Unlike (some a) (map some more ++ after) × Singly more after
+abbrev pub Unpaired : {A : Type 0} → List A → List (Option A) → Type 0
+Unpaired [] after = Unit {0}
+Unpaired (a ∷ more) after = Unlike (some a) (map some more ++ after) × Unpaired more after
 
-abbrev pub NoRow : {A : Type 0} → List (Stretch A) → Type 0
-NoRow [] = Unit {0}
-NoRow (gap n ∷ r) = Unit {0}
-NoRow (run n a ∷ r) = Unit {0}
-NoRow (row a more ∷ r) = ⊥
+abbrev pub NoLiteral : {A : Type 0} → List (Stretch A) → Type 0
+NoLiteral [] = Unit {0}
+NoLiteral (Stretch.absent n ∷ r) = Unit {0}
+NoLiteral (Stretch.repeat n a ∷ r) = Unit {0}
+NoLiteral (Stretch.literal a more ∷ r) = ⊥
 
 -- Each stretch is of one of the three sorts, and goes on as long as it can. Two readings directly beside one another are looked at once,
 -- from the left: before a row stands a gap, which holds no value, or a run, which says itself that its value does not follow
 -- (`cut-beside` of proofs/Cut.antt says it of every border).
 abbrev pub Longest : {A : Type 0} → List (Stretch A) → Type 0
 Longest [] = Unit {0}
-Longest (gap n ∷ r) = (1 ≤ n) × Unlike none (readingsOf r) × Longest r
-Longest (run n a ∷ r) = (2 ≤ n) × Unlike (some a) (readingsOf r) × Longest r
-Longest (row a more ∷ r) = Singly (a ∷ more) (readingsOf r) × NoRow r × Longest r
+Longest (Stretch.absent n ∷ r) = (1 ≤ n) × Unlike none (readingsOf r) × Longest r
+Longest (Stretch.repeat n a ∷ r) = (2 ≤ n) × Unlike (some a) (readingsOf r) × Longest r
+Longest (Stretch.literal a more ∷ r) = Unpaired (a ∷ more) (readingsOf r) × NoLiteral r × Longest r

@@ -6,26 +6,26 @@ use mathlib.Core.Bool.{Bool, cond}
 
 -- so many absent; one value two or more times; values that equal no neighbour, the first apart
 pub data Stretch (A : Type 0) : Type 0 where
-  gap : ℕ → Stretch A
-  run : ℕ → A → Stretch A
-  row : A → List A → Stretch A
+  absent : ℕ → Stretch A
+  repeat : ℕ → A → Stretch A
+  literal : A → List A → Stretch A
 
-unfoldable pub rowOf : {A : Type 0} → List A → List (Stretch A) → List (Stretch A)
-rowOf [] r = r
-rowOf (b ∷ bs) r = row b bs ∷ r
+unfoldable pub literalOf : {A : Type 0} → List A → List (Stretch A) → List (Stretch A)
+literalOf [] r = r
+literalOf (b ∷ bs) r = Stretch.literal b bs ∷ r
 
 -- a reading in front of a list that is cut: it joins the first stretch, or begins a new one
 unfoldable pub joinNone : {A : Type 0} → List (Stretch A) → List (Stretch A)
-joinNone [] = gap 1 ∷ []
-joinNone (gap n ∷ r) = gap (suc n) ∷ r
-joinNone (run n b ∷ r) = gap 1 ∷ run n b ∷ r
-joinNone (row b bs ∷ r) = gap 1 ∷ row b bs ∷ r
+joinNone [] = Stretch.absent 1 ∷ []
+joinNone (Stretch.absent n ∷ r) = Stretch.absent (suc n) ∷ r
+joinNone (Stretch.repeat n b ∷ r) = Stretch.absent 1 ∷ Stretch.repeat n b ∷ r
+joinNone (Stretch.literal b bs ∷ r) = Stretch.absent 1 ∷ Stretch.literal b bs ∷ r
 
 unfoldable pub joinSome : {A : Type 0} → (A → A → Bool) → A → List (Stretch A) → List (Stretch A)
-joinSome same a [] = row a [] ∷ []
-joinSome same a (gap n ∷ r) = row a [] ∷ gap n ∷ r
-joinSome same a (run n b ∷ r) = cond (same a b) (run (suc n) b ∷ r) (row a [] ∷ run n b ∷ r)
-joinSome same a (row b bs ∷ r) = cond (same a b) (run 2 b ∷ rowOf bs r) (row a (b ∷ bs) ∷ r)
+joinSome same a [] = Stretch.literal a [] ∷ []
+joinSome same a (Stretch.absent n ∷ r) = Stretch.literal a [] ∷ Stretch.absent n ∷ r
+joinSome same a (Stretch.repeat n b ∷ r) = cond (same a b) (Stretch.repeat (suc n) b ∷ r) (Stretch.literal a [] ∷ Stretch.repeat n b ∷ r)
+joinSome same a (Stretch.literal b bs ∷ r) = cond (same a b) (Stretch.repeat 2 b ∷ literalOf bs r) (Stretch.literal a (b ∷ bs) ∷ r)
 
 unfoldable pub stretches : {A : Type 0} → (A → A → Bool) → List (Option A) → List (Stretch A)
 stretches same [] = []

@@ -8,7 +8,7 @@ use lib.ListN.{length}
 use lib.IntN.{pos, negsuc}
 use Rattle.leb128.specs.Write.{u64Bytes, i64Bytes}
 use Rattle.encoding.specs.Element.{Element}
-use Rattle.encoding.specs.Stretches.{Stretch, gap, run, row, stretches}
+use Rattle.encoding.specs.Stretches.{Stretch, stretches}
 
 unfoldable pub allBytes : {A : Type 0} → Element A → List A → List ℕ
 allBytes E [] = []
@@ -16,9 +16,9 @@ allBytes E (a ∷ more) = E .write a ++ allBytes E more
 
 -- one stretch, one run; negsuc n is -(n + 1), so the count of a row is the number of its values, negative
 unfoldable pub stretchBytes : {A : Type 0} → Element A → Stretch A → List ℕ
-stretchBytes E (gap n) = i64Bytes (pos 0) ++ u64Bytes n
-stretchBytes E (run n a) = i64Bytes (pos n) ++ E .write a
-stretchBytes E (row a more) = i64Bytes (negsuc (length more)) ++ allBytes E (a ∷ more)
+stretchBytes E (Stretch.absent n) = i64Bytes (pos 0) ++ u64Bytes n
+stretchBytes E (Stretch.repeat n a) = i64Bytes (pos n) ++ E .write a
+stretchBytes E (Stretch.literal a more) = i64Bytes (negsuc (length more)) ++ allBytes E (a ∷ more)
 
 unfoldable pub stretchesBytes : {A : Type 0} → Element A → List (Stretch A) → List ℕ
 stretchesBytes E [] = []

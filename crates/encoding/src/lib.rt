@@ -10,15 +10,15 @@ pub enum Answer {
 // How a run begins: so many times the value at a position; so many values singly from a position on; so many absent readings, with the
 // position behind them; or a refusal's number and place.
 pub enum Head {
-    Again(u64, usize),
-    Singly(u64, usize),
-    Gone(u64, usize),
-    Amiss(u8, usize),
+    Repeat(u64, usize),
+    Literal(u64, usize),
+    Absent(u64, usize),
+    Refused(u8, usize),
 }
 
 // A stretch of a given list that starts at a known index, by its kind and the index behind it.
-pub enum Piece {
-    Gap(usize),
-    Run(usize),
-    Row(usize),
+pub enum StretchEnd {
+    Absent(usize),
+    Repeat(usize),
+    Literal(usize),
 }

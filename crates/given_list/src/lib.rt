@@ -5,8 +5,8 @@ ghost use lib.IntN.{pos};
 ghost use lib.ListN.{drop};
 ghost use Rattle.encoding.specs.Given.{badFlag, listJudged};
 ghost use Rattle.encoding.specs.Flags.{zeros, anyFlag, minus};
-ghost use Rattle.encoding.specs.Answers.{answerOf};
-ghost use Rattle.given_list.specs.Answers.{flagsOf};
+ghost use Rattle.encoding.specs.Cases.{answerOf};
+ghost use Rattle.given_list.specs.Cases.{flagsOf};
 use encoding::Answer;
 use encoding::LIMIT;
 
@@ -63,7 +63,7 @@ pub fn any_present(present: &[u8]) -> bool
 }
 
 // The index behind the absent readings from i on.
-pub fn gap_end(present: &[u8], i: usize) -> usize
+pub fn absent_end(present: &[u8], i: usize) -> usize
     ensures { λ r. ⌜ r ≡ i + zeros (drop i (now (present .entry))) ⌝ }
 {
     let mut k = i;
@@ -77,13 +77,13 @@ pub fn gap_end(present: &[u8], i: usize) -> usize
 }
 
 // The signed count of a run of n equal values, and of n values that stand singly.
-pub fn again_count(n: u32) -> i64
+pub fn repeat_count(n: u32) -> i64
     ensures { λ r. ⌜ r ≡ pos n ⌝ }
 {
     n as i64
 }
 
-pub fn singly_count(n: u32) -> i64
+pub fn literal_count(n: u32) -> i64
     ensures { λ r. ⌜ r ≡ minus n ⌝ }
 {
     if n == 0 {

@@ -1,5 +1,5 @@
 pub mod Answer
-pub mod Answers
+pub mod Cases
 pub mod Digits
 pub mod Got
 pub mod Read

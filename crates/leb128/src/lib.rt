@@ -4,7 +4,7 @@ ghost use Prim.Native.Nat.{_+_, _<_, _^_};
 ghost use lib.ListN.{drop};
 ghost use lib.IntN.{pos, negsuc};
 ghost use lib.Signed.{mag};
-ghost use Rattle.leb128.specs.Answers.{digitsOf, u64Of, i64Of, u32Of};
+ghost use Rattle.leb128.specs.Cases.{digitsOf, u64Of, i64Of, u32Of};
 ghost use Rattle.leb128.specs.Digits.{digits, whole};
 ghost use Rattle.leb128.specs.Read.{unsigned, signed, fill, u64At, i64At, u32At, nonzeroAt};
 ghost use Rattle.leb128.specs.Sound.{Sound};

@@ -6,7 +6,7 @@ ghost use lib.ListN.{length};
 ghost use lib.Seq.{sets};
 ghost use Rattle.leb128.specs.Answer.{written, left};
 ghost use Rattle.leb128.specs.Write.{group, encoded, u64Bytes, i64Bytes, putAt, putOut};
-ghost use Rattle.leb128_writer.specs.Answers.{writtenOf};
+ghost use Rattle.leb128_writer.specs.Cases.{writtenOf};
 use leb128::magnitude;
 
 // The position behind what was written; or a refusal's number and place.

@@ -5,12 +5,12 @@ ghost use Prim.Native.Nat.{_+_, _≤_, _<_};
 ghost use lib.ListN.{length, replicate};
 ghost use lib.Seq.{sets};
 ghost use Rattle.leb128.specs.Read.{u64At};
-ghost use Rattle.encoding.specs.Answers.{answerOf};
-ghost use Rattle.encoding.specs.Column.{spot, repeated, singles, runAt, trace};
+ghost use Rattle.encoding.specs.Cases.{answerOf};
+ghost use Rattle.encoding.specs.Column.{spot, repeated, literals, runAt, trace};
 ghost use Rattle.encoding.specs.Limit.{limit};
 ghost use Rattle.encoding.specs.Slots.{slotOf, flagOf, Decoded, Room, Wrote};
 ghost use Rattle.encoding.specs.Walk.{outcome};
-ghost use Rattle.rle_decoder.specs.Answers.{stepOf};
+ghost use Rattle.rle_decoder.specs.Cases.{stepOf};
 ghost use Rattle.rle_decoder.specs.Word.{u64E};
 use encoding::Answer;
 use encoding::Head;
@@ -34,8 +34,8 @@ fn scan_repeat(s: &[u8], q: usize, had: u64, c: u64) -> Step
 }
 
 // c values singly, from q on, behind which there are `total` readings.
-fn scan_singles(s: &[u8], q: usize, total: u64, c: u64) -> Step
-    ensures { λ r. ⌜ stepOf r ≡ singles u64E (now (s .entry)) total c q .next ⌝ }
+fn scan_literal(s: &[u8], q: usize, total: u64, c: u64) -> Step
+    ensures { λ r. ⌜ stepOf r ≡ literals u64E (now (s .entry)) total c q .next ⌝ }
 {
     let mut at = q;
     let mut left = c;
@@ -59,10 +59,10 @@ fn scan_run(s: &[u8], at: usize, had: u64) -> Step
     ensures { λ r. ⌜ stepOf r ≡ runAt u64E (now (s .entry)) (spot at had) .next ⌝ }
 {
     match run_head::head_at(s, at, had) {
-        Head::Again(c, q) => scan_repeat(s, q, had, c),
-        Head::Singly(c, q) => scan_singles(s, q, had + c, c),
-        Head::Gone(c, next) => Step::On(next, had + c),
-        Head::Amiss(n, place) => Step::Off(n, place),
+        Head::Repeat(c, q) => scan_repeat(s, q, had, c),
+        Head::Literal(c, q) => scan_literal(s, q, had + c, c),
+        Head::Absent(c, next) => Step::On(next, had + c),
+        Head::Refused(n, place) => Step::Off(n, place),
     }
 }
 
@@ -120,7 +120,7 @@ fn fill_repeat(s: &[u8], q: usize, had: u64, c: u64, values: &mut [u64], present
 }
 
 // c values singly, from q on.
-fn fill_singles(
+fn fill_literal(
     s: &[u8],
     q: usize,
     total: u64,
@@ -129,9 +129,9 @@ fn fill_singles(
     values: &mut [u64],
     present: &mut [u8],
 ) -> Step
-    requires { ⌜ Room (singles u64E (now s) total c q .readings) from (now values) (now present) ⌝ }
-    ensures { λ r. ⌜ stepOf r ≡ singles u64E (now (s .entry)) total c q .next ⌝ }
-    ensures { λ r. ⌜ Wrote (slotOf 0) flagOf (singles u64E (now (s .entry)) total c q .readings) from
+    requires { ⌜ Room (literals u64E (now s) total c q .readings) from (now values) (now present) ⌝ }
+    ensures { λ r. ⌜ stepOf r ≡ literals u64E (now (s .entry)) total c q .next ⌝ }
+    ensures { λ r. ⌜ Wrote (slotOf 0) flagOf (literals u64E (now (s .entry)) total c q .readings) from
         (now (values .entry)) (now (values .exit)) (now (present .entry)) (now (present .exit)) ⌝ }
 {
     let mut at = q;
@@ -163,13 +163,13 @@ fn fill_run(s: &[u8], at: usize, had: u64, values: &mut [u64], present: &mut [u8
         (now (values .entry)) (now (values .exit)) (now (present .entry)) (now (present .exit)) ⌝ }
 {
     match run_head::head_at(s, at, had) {
-        Head::Again(c, q) => fill_repeat(s, q, had, c, values, present),
-        Head::Singly(c, q) => fill_singles(s, q, had + c, c, had as usize, values, present),
-        Head::Gone(c, next) => {
+        Head::Repeat(c, q) => fill_repeat(s, q, had, c, values, present),
+        Head::Literal(c, q) => fill_literal(s, q, had + c, c, had as usize, values, present),
+        Head::Absent(c, next) => {
             fill_same(values, present, had as usize, c, 0, 0);
             Step::On(next, had + c)
         }
-        Head::Amiss(number, place) => Step::Off(number, place),
+        Head::Refused(number, place) => Step::Off(number, place),
     }
 }
 

@@ -6,20 +6,20 @@ ghost use lib.Dec.{eqb};
 ghost use lib.ListN.{length, getD};
 ghost use lib.Seq.{sets, slice};
 ghost use Rattle.leb128.specs.Write.{u64Bytes, i64Bytes};
-ghost use Rattle.encoding.specs.Ahead.{bytesFrom, endOf, stretchOf, PieceAt, RunTo, RowTo, Paired, PutAt};
-ghost use Rattle.encoding.specs.Answers.{answerOf};
+ghost use Rattle.encoding.specs.Ahead.{bytesFrom, endOf, stretchOf, StretchAt, RepeatTo, LiteralTo, Paired, PutAt};
+ghost use Rattle.encoding.specs.Cases.{answerOf};
 ghost use Rattle.encoding.specs.Given.{slotList, listJudged, sized, Encoded};
 ghost use Rattle.encoding.specs.Limit.{limit};
 ghost use Rattle.encoding.specs.Writer.{allBytes, stretchBytes, columnBytes};
 ghost use Rattle.rle_decoder.specs.Word.{u64E};
 use encoding::Answer;
-use encoding::Piece;
+use encoding::StretchEnd;
 use leb128_writer::Written;
 
 // The index behind the values that equal the one at i.
-fn run_end(values: &[u64], present: &[u8], i: usize) -> usize
+fn repeat_end(values: &[u64], present: &[u8], i: usize) -> usize
     requires { ⌜ (i < length (now values)) × (length (now present) ≡ length (now values)) × (getD (now present) i 0 ≡ 0 → ⊥) ⌝ }
-    ensures { λ r. ⌜ RunTo eqb 0 (now (values .entry)) (now (present .entry)) i r ⌝ }
+    ensures { λ r. ⌜ RepeatTo eqb 0 (now (values .entry)) (now (present .entry)) i r ⌝ }
 {
     let a = values[i];
     let mut k = i + 1;
@@ -54,10 +54,10 @@ fn paired(values: &[u64], present: &[u8], k: usize) -> bool
 }
 
 // The index behind the values from i on that equal no neighbour.
-fn row_end(values: &[u64], present: &[u8], i: usize) -> usize
-    requires { ⌜ RowTo eqb 0 (now values) (now present) i (i + 1) ⌝ }
+fn literal_end(values: &[u64], present: &[u8], i: usize) -> usize
+    requires { ⌜ LiteralTo eqb 0 (now values) (now present) i (i + 1) ⌝ }
     requires { ⌜ length (now present) ≡ length (now values) ⌝ }
-    ensures { λ r. ⌜ PieceAt eqb 0 (now (values .entry)) (now (present .entry)) i (Piece.Row r) ⌝ }
+    ensures { λ r. ⌜ StretchAt eqb 0 (now (values .entry)) (now (present .entry)) i (StretchEnd.Row r) ⌝ }
 {
     let mut j = i + 1;
     while j < values.len() {
@@ -73,32 +73,32 @@ fn row_end(values: &[u64], present: &[u8], i: usize) -> usize
 }
 
 // The stretch at i.
-fn piece_at(values: &[u64], present: &[u8], i: usize) -> Piece
+fn stretch_at(values: &[u64], present: &[u8], i: usize) -> StretchEnd
     requires { ⌜ (i < length (now values)) × (length (now present) ≡ length (now values)) ⌝ }
-    ensures { λ r. ⌜ PieceAt eqb 0 (now (values .entry)) (now (present .entry)) i r ⌝ }
+    ensures { λ r. ⌜ StretchAt eqb 0 (now (values .entry)) (now (present .entry)) i r ⌝ }
 {
     if present[i] == 0 {
-        return Piece::Gap(given_list::gap_end(present, i));
+        return StretchEnd::Absent(given_list::absent_end(present, i));
     }
-    let k = run_end(values, present, i);
+    let k = repeat_end(values, present, i);
     if 2 <= k - i {
-        return Piece::Run(k);
+        return StretchEnd::Repeat(k);
     }
-    Piece::Row(row_end(values, present, i))
+    StretchEnd::Literal(literal_end(values, present, i))
 }
 
-fn piece_end(piece: Piece) -> usize
-    ensures { λ r. ⌜ r ≡ endOf piece ⌝ }
+fn stretch_end(stretch: StretchEnd) -> usize
+    ensures { λ r. ⌜ r ≡ endOf stretch ⌝ }
 {
-    match piece {
-        Piece::Gap(k) => k,
-        Piece::Run(k) => k,
-        Piece::Row(k) => k,
+    match stretch {
+        StretchEnd::Absent(k) => k,
+        StretchEnd::Repeat(k) => k,
+        StretchEnd::Literal(k) => k,
     }
 }
 
 // How many bytes the values from i up to k take.
-fn row_len(values: &[u64], i: usize, k: usize) -> usize
+fn literal_len(values: &[u64], i: usize, k: usize) -> usize
     requires { ⌜ (i ≤ k) × (k ≤ length (now values)) × (length (now values) ≤ limit) ⌝ }
     ensures { λ r. ⌜ (r ≡ length (allBytes u64E (slice i k (now (values .entry))))) × (r ≤ 10 * (k - i)) ⌝ }
 {
@@ -112,16 +112,16 @@ fn row_len(values: &[u64], i: usize, k: usize) -> usize
 }
 
 // How many bytes the stretch at i takes.
-fn piece_len(values: &[u64], i: usize, piece: Piece) -> usize
-    requires { ⌜ (i < endOf piece) × (endOf piece ≤ length (now values)) × (length (now values) ≤ limit) ⌝ }
-    ensures { λ r. ⌜ r ≡ length (stretchBytes u64E (stretchOf 0 (now (values .entry)) i piece)) ⌝ }
+fn stretch_len(values: &[u64], i: usize, stretch: StretchEnd) -> usize
+    requires { ⌜ (i < endOf stretch) × (endOf stretch ≤ length (now values)) × (length (now values) ≤ limit) ⌝ }
+    ensures { λ r. ⌜ r ≡ length (stretchBytes u64E (stretchOf 0 (now (values .entry)) i stretch)) ⌝ }
 {
-    match piece {
-        Piece::Gap(k) => leb128_writer::len_i64(0) + leb128_writer::len_u64((k - i) as u64),
-        Piece::Run(k) => leb128_writer::len_i64(given_list::again_count((k - i) as u32))
+    match stretch {
+        StretchEnd::Absent(k) => leb128_writer::len_i64(0) + leb128_writer::len_u64((k - i) as u64),
+        StretchEnd::Repeat(k) => leb128_writer::len_i64(given_list::repeat_count((k - i) as u32))
             + leb128_writer::len_u64(values[i]),
-        Piece::Row(k) => leb128_writer::len_i64(given_list::singly_count((k - i) as u32))
-            + row_len(values, i, k),
+        StretchEnd::Literal(k) => leb128_writer::len_i64(given_list::literal_count((k - i) as u32))
+            + literal_len(values, i, k),
     }
 }
 
@@ -133,9 +133,9 @@ fn bytes_len(values: &[u64], present: &[u8]) -> usize
     let mut n: usize = 0;
     let mut i: usize = 0;
     while i < values.len() {
-        let piece = piece_at(values, present, i);
-        n += piece_len(values, i, piece);
-        i = piece_end(piece);
+        let stretch = stretch_at(values, present, i);
+        n += stretch_len(values, i, stretch);
+        i = stretch_end(stretch);
     }
     n
 }
@@ -184,7 +184,7 @@ fn put_count(out: &mut [u8], at: usize, c: i64) -> usize
 }
 
 // The values from i up to k.
-fn put_row(values: &[u64], i: usize, k: usize, out: &mut [u8], from: usize) -> usize
+fn put_literal(values: &[u64], i: usize, k: usize, out: &mut [u8], from: usize) -> usize
     requires { ⌜ (i ≤ k) × (k ≤ length (now values)) × (from + length (allBytes u64E (slice i k (now values))) ≤ length (now out)) ⌝ }
     ensures { λ r. ⌜ PutAt (now (out .entry)) (now (out .exit)) from r (allBytes u64E (slice i k (now (values .entry)))) ⌝ }
 {
@@ -198,23 +198,23 @@ fn put_row(values: &[u64], i: usize, k: usize, out: &mut [u8], from: usize) -> u
 }
 
 // The stretch at i.
-fn put_piece(values: &[u64], i: usize, piece: Piece, out: &mut [u8], at: usize) -> usize
-    requires { ⌜ (i < endOf piece) × (endOf piece ≤ length (now values)) × (length (now values) ≤ limit) ⌝ }
-    requires { ⌜ at + length (stretchBytes u64E (stretchOf 0 (now values) i piece)) ≤ length (now out) ⌝ }
-    ensures { λ r. ⌜ PutAt (now (out .entry)) (now (out .exit)) at r (stretchBytes u64E (stretchOf 0 (now (values .entry)) i piece)) ⌝ }
+fn put_stretch(values: &[u64], i: usize, stretch: StretchEnd, out: &mut [u8], at: usize) -> usize
+    requires { ⌜ (i < endOf stretch) × (endOf stretch ≤ length (now values)) × (length (now values) ≤ limit) ⌝ }
+    requires { ⌜ at + length (stretchBytes u64E (stretchOf 0 (now values) i stretch)) ≤ length (now out) ⌝ }
+    ensures { λ r. ⌜ PutAt (now (out .entry)) (now (out .exit)) at r (stretchBytes u64E (stretchOf 0 (now (values .entry)) i stretch)) ⌝ }
 {
-    match piece {
-        Piece::Gap(k) => {
+    match stretch {
+        StretchEnd::Absent(k) => {
             let q = put_count(out, at, 0);
             put_number(out, q, (k - i) as u64)
         }
-        Piece::Run(k) => {
-            let q = put_count(out, at, given_list::again_count((k - i) as u32));
+        StretchEnd::Repeat(k) => {
+            let q = put_count(out, at, given_list::repeat_count((k - i) as u32));
             put_number(out, q, values[i])
         }
-        Piece::Row(k) => {
-            let q = put_count(out, at, given_list::singly_count((k - i) as u32));
-            put_row(values, i, k, out, q)
+        StretchEnd::Literal(k) => {
+            let q = put_count(out, at, given_list::literal_count((k - i) as u32));
+            put_literal(values, i, k, out, q)
         }
     }
 }
@@ -228,9 +228,9 @@ fn put_all(values: &[u64], present: &[u8], out: &mut [u8])
     let mut at: usize = 0;
     let mut i: usize = 0;
     while i < values.len() {
-        let piece = piece_at(values, present, i);
-        at = put_piece(values, i, piece, out, at);
-        i = piece_end(piece);
+        let stretch = stretch_at(values, present, i);
+        at = put_stretch(values, i, stretch, out, at);
+        i = stretch_end(stretch);
     }
 }
 

@@ -5,8 +5,8 @@ ghost use lib.Dec.{leb};
 ghost use lib.IntN.{natAbs};
 ghost use Rattle.leb128.specs.Read.{u64At};
 ghost use Rattle.encoding.specs.Limit.{limit};
-ghost use Rattle.encoding.specs.Head.{again, singly, judged, goneHead, headAt};
-ghost use Rattle.encoding.specs.Answers.{headOf};
+ghost use Rattle.encoding.specs.Head.{Head, judged, absentHead, headAt};
+ghost use Rattle.encoding.specs.Cases.{headOf};
 use encoding::Head;
 use encoding::LIMIT;
 use leb128::ParsedI64;
@@ -23,39 +23,39 @@ fn may_follow(had: u64, c: u64) -> bool
 }
 
 // The second number of an absent run, at q.
-fn gone_at(s: &[u8], q: usize, had: u64) -> Head
-    ensures { λ r. ⌜ headOf r ≡ goneHead had q (u64At (now (s .entry)) q) ⌝ }
+fn absent_at(s: &[u8], q: usize, had: u64) -> Head
+    ensures { λ r. ⌜ headOf r ≡ absentHead had q (u64At (now (s .entry)) q) ⌝ }
 {
     match leb128::leb128_u64(s, q) {
         ParsedU64::Number(c, next) => {
             if may_follow(had, c) {
-                Head::Gone(c, next)
+                Head::Absent(c, next)
             } else {
-                Head::Amiss(5, q)
+                Head::Refused(5, q)
             }
         }
-        ParsedU64::Refused(n, place) => Head::Amiss(n, place),
+        ParsedU64::Refused(n, place) => Head::Refused(n, place),
     }
 }
 
 // A run of c readings whose count stands at `at`, before q.
-fn again_at(at: usize, had: u64, c: u64, q: usize) -> Head
-    ensures { λ r. ⌜ headOf r ≡ judged had c at (again c q) ⌝ }
+fn repeat_at(at: usize, had: u64, c: u64, q: usize) -> Head
+    ensures { λ r. ⌜ headOf r ≡ judged had c at (Head.repeat c q) ⌝ }
 {
     if may_follow(had, c) {
-        Head::Again(c, q)
+        Head::Repeat(c, q)
     } else {
-        Head::Amiss(5, at)
+        Head::Refused(5, at)
     }
 }
 
-fn singly_at(at: usize, had: u64, c: u64, q: usize) -> Head
-    ensures { λ r. ⌜ headOf r ≡ judged had c at (singly c q) ⌝ }
+fn literal_at(at: usize, had: u64, c: u64, q: usize) -> Head
+    ensures { λ r. ⌜ headOf r ≡ judged had c at (Head.literal c q) ⌝ }
 {
     if may_follow(had, c) {
-        Head::Singly(c, q)
+        Head::Literal(c, q)
     } else {
-        Head::Amiss(5, at)
+        Head::Refused(5, at)
     }
 }
 
@@ -73,13 +73,13 @@ pub fn head_at(s: &[u8], at: usize, had: u64) -> Head
     match leb128::leb128_i64(s, at) {
         ParsedI64::Number(c, q) => {
             if c < 0 {
-                return singly_at(at, had, count_of(c), q);
+                return literal_at(at, had, count_of(c), q);
             }
             if c == 0 {
-                return gone_at(s, q, had);
+                return absent_at(s, q, had);
             }
-            again_at(at, had, count_of(c), q)
+            repeat_at(at, had, count_of(c), q)
         }
-        ParsedI64::Refused(n, place) => Head::Amiss(n, place),
+        ParsedI64::Refused(n, place) => Head::Refused(n, place),
     }
 }

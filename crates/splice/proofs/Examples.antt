@@ -10,10 +10,10 @@ use Rattle.leb128.specs.Got.{got, bad}
 use Rattle.leb128.specs.Read.{u64At, i64At, u32At}
 use Rattle.leb128.specs.Write.{encoded}
 use Rattle.encoding.specs.Walk.{Ending, fault, walk, outcome, outcomeOf}
-use Rattle.encoding.specs.Head.{goneHead, begun, headAt}
-use Rattle.encoding.specs.Column.{value, repeated, single, singles, opened, runAt, traceFrom, trace}
+use Rattle.encoding.specs.Head.{absentHead, begun, headAt}
+use Rattle.encoding.specs.Column.{value, repeated, literalNext, literals, runOf, runAt, traceFrom, trace}
 use Rattle.encoding.specs.Given.{slotList, badFlag}
-use Rattle.encoding.specs.Stretches.{rowOf, joinNone, joinSome, stretches}
+use Rattle.encoding.specs.Stretches.{literalOf, joinNone, joinSome, stretches}
 use Rattle.encoding.specs.Writer.{allBytes, stretchBytes, stretchesBytes, anyPresent, columnBytes}
 use Rattle.delta_decoder.specs.Sums.{heldSum, added, addUp, deltaTrace}
 use Rattle.delta_encoder.specs.Differences.{differences, deltaBytes, wideAt}
@@ -58,8 +58,8 @@ pub record Examples : Type 0 where
       ≡ accepted 3 (some (pos 80) ∷ some (pos 81) ∷ some (pos 80) ∷ []) (0x01 ∷ 0x13 ∷ 0x05 ∷ 0x7d ∷ 0xd0 ∷ 0x00 ∷ 0x01 ∷ 0x7f ∷ [])
 
 pub examples : Examples
-unfolding u64At i64At u32At encoded walk outcome outcomeOf goneHead begun headAt value repeated single singles opened runAt traceFrom trace
-    rowOf joinNone joinSome stretches allBytes stretchBytes stretchesBytes anyPresent columnBytes heldSum added addUp deltaTrace
+unfolding u64At i64At u32At encoded walk outcome outcomeOf absentHead begun headAt value repeated literalNext literals runOf runAt traceFrom trace
+    literalOf joinNone joinSome stretches allBytes stretchBytes stretchesBytes anyPresent columnBytes heldSum added addUp deltaTrace
     differences deltaBytes wideAt counted turnAt boolTrace addOne counts countsBytes boolBytes rowsAt inOrder plain sum parse cut
     joined rowsBytes tableBytes blockBytes newBlock slotList badFlag givenOptional edited
 examples =

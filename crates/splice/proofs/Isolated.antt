@@ -18,7 +18,7 @@ use Rattle.raw_column.specs.Table.{Tab, tab, sum, parse}
 use Rattle.block_frame.specs.Columns.{tableBytes, newBlock}
 use Rattle.column_part.specs.Part.{startOf, partAt, bytesOf}
 use Rattle.raw_column.specs.Rows.{opened}
-use Rattle.block_frame.specs.Frame.{headOf, tailOf}
+use Rattle.block_frame.specs.Frame.{frontOf, tailOf}
 use Rattle.block_frame.proofs.Blocks.{columnsOf, columns-are, Agree, columns-agree, new-block, accepted-written, others-kept, parts-kept}
 use Rattle.block_frame.proofs.Cutting.{cut-at}
 use Rattle.block_frame.proofs.Tables.{Below, table-fills, table-back}
@@ -242,7 +242,7 @@ module _ {A : Type 0} (K : Kind A) (s specs lens : List ℕ) (next position star
         r .fits,
         ap length b,
         ap length (new-block s specs lens next e position (r .served) c),
-        length-append (headOf s specs lens next position (length c)) (c ++ tailOf s lens next position),
+        length-append (frontOf s specs lens next position (length c)) (c ++ tailOf s lens next position),
         length-append c (tailOf s lens next position),
       ) in
       let k = parts-kept s specs lens position c _ (others-kept s specs lens next position c short e (r .served) f) in

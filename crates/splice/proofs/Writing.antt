@@ -16,7 +16,7 @@ use Rattle.encoding.specs.Limit.{limit}
 use Rattle.encoding.specs.Given.{slotList, flagsJudged, listJudged, sized, Encoded}
 use Rattle.delta_encoder.specs.Differences.{differences, wideAt, widthJudged, deltaJudged}
 use Rattle.block_frame.specs.Columns.{newBlock}
-use Rattle.block_frame.specs.Frame.{Framed, shut, room, headOf, tailOf, framed, frameOf, frameOut}
+use Rattle.block_frame.specs.Frame.{Framed, shut, room, frontOf, tailOf, framed, frameOf, frameOut}
 use Rattle.block_frame.specs.declared.Frame.{Frame}
 use Rattle.block_frame.proofs.Blocks.{frame-given, frame-refused, frame-is-block, frame-filled}
 use Rattle.splice.specs.Kind.{Kind}
@@ -98,7 +98,7 @@ module _ {A : Type 0} (K : Kind A) {s : List ℕ} {position : ℕ} (g : HasRow s
     ends = at-row ∙ ap (finished K 0 xs (length out) blockOf) narrow
 
     abbrev head : List ℕ
-    head = headOf s (g .specs) (g .lens) (g .next) position size
+    head = frontOf s (g .specs) (g .lens) (g .next) position size
 
     abbrev tail : List ℕ
     tail = tailOf s (g .lens) (g .next) position
@@ -109,7 +109,7 @@ module _ {A : Type 0} (K : Kind A) {s : List ℕ} {position : ℕ} (g : HasRow s
     given : length (blockOf W) ≤ length out → framed s position size (length out) ≡ room head tail
     given h =
         ap (λ (n : ℕ). framed s position n (length out)) sizes ∙ frame-given s (g .specs) (g .lens) (g .next) (g .is) position (g .there) W (length out) h
-        ∙ ap (λ (n : ℕ). room (headOf s (g .specs) (g .lens) (g .next) position n) tail) (sym sizes)
+        ∙ ap (λ (n : ℕ). room (frontOf s (g .specs) (g .lens) (g .next) position n) tail) (sym sizes)
 
     pub finish-short : {r : Spliced} → (f .number ≡ 0 → ⊥) → r ≡ refusal (f .number) (f .place) → Finished K s position xs out mid r
     finish-short {r} h a = go (leb (length (blockOf W)) (length out)) refl

@@ -5,7 +5,7 @@ ghost use Prim.Native.Nat.{_+_, _≤_};
 ghost use mathlib.Core.Bool.{false};
 ghost use lib.Dec.{leb};
 ghost use lib.ListN.{length, take};
-ghost use Rattle.encoding.specs.Answers.{answerOf};
+ghost use Rattle.encoding.specs.Cases.{answerOf};
 ghost use Rattle.encoding.specs.Limit.{limit};
 ghost use Rattle.splice.specs.Edit.{endIn, below, serves, givenOptional, refusal, acceptance};
 ghost use Rattle.splice.specs.Steps.{rowFor, countAs, resultJudged, onResult, columnPlanned, planned};

@@ -7,7 +7,7 @@ use lib.ListN.{length}
 use Rattle.encoding.specs.Limit.{limit}
 use Rattle.encoding.proofs.Via.{via}
 use Rattle.encoding.proofs.Walking.{owes, owes-on, owes-off}
-use Rattle.boolean_decoder.specs.Answers.{stepOf}
+use Rattle.boolean_decoder.specs.Cases.{stepOf}
 use Rattle.boolean_decoder.specs.Turns.{turn}
 use Rattle.boolean_decoder.proofs.Turning.{turns, turned, owes-trace, owes-end}
 use Rattle.boolean_decoder.proofs.count.Statement.{statement}

@@ -1,7 +1,7 @@
 -- `boolean_decoder::decode` meets its contract: each way out is a case of its definition. Assumes nothing.
 use native.Mathlib.Omega.{arith}
 use borrow.Author.Needs.{needs}
-use Rattle.encoding.specs.Answers.{answerOf}
+use Rattle.encoding.specs.Cases.{answerOf}
 use Rattle.encoding.proofs.Via.{via}
 use Rattle.boolean_decoder.proofs.Decoding.{decode-fault, decode-short, decode-room, decode-done}
 use Rattle.boolean_decoder.proofs.decode.Statement.{statement}

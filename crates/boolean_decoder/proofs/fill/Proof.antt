@@ -4,7 +4,7 @@ use native.Mathlib.Omega.{arith}
 use borrow.Author.Needs.{needs}
 use lib.ListN.{length}
 use Rattle.encoding.proofs.Via.{via}
-use Rattle.boolean_decoder.specs.Answers.{stepOf}
+use Rattle.boolean_decoder.specs.Cases.{stepOf}
 use Rattle.boolean_decoder.specs.Turns.{turn}
 use Rattle.boolean_decoder.proofs.Decoding.{Owing, owing-start, owing-room, owing-on, owing-off, owing-over}
 use Rattle.boolean_decoder.proofs.Turning.{turned}

@@ -1,7 +1,7 @@
 -- `boolean_decoder::turn_at` meets its contract: a count that is read, or its fault. Assumes nothing.
 use mathlib.Core.Path.{sym, _∙_}
 use borrow.Author.Needs.{needs}
-use Rattle.leb128.specs.Answers.{u64Of}
+use Rattle.leb128.specs.Cases.{u64Of}
 use Rattle.encoding.proofs.Via.{via}
 use Rattle.encoding.proofs.Walking.{next-eq}
 use Rattle.boolean_decoder.proofs.Turning.{counted-bad, turn-read}

@@ -1,7 +1,7 @@
 -- `boolean_encoder::encode` meets its contract: each way out is a case of its definition. Assumes nothing.
 use native.Mathlib.Omega.{arith}
 use borrow.Author.Needs.{needs}
-use Rattle.encoding.specs.Answers.{answerOf}
+use Rattle.encoding.specs.Cases.{answerOf}
 use Rattle.encoding.proofs.Putting.{sized-is, encode-refused, encode-short, encode-done}
 use Rattle.encoding.proofs.Via.{via}
 use Rattle.boolean_encoder.proofs.Writing.{judged-flags}

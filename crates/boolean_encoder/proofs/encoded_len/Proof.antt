@@ -1,6 +1,6 @@
 -- `boolean_encoder::encoded_len` meets its contract: the size of a list that is judged good. Assumes nothing.
 use borrow.Author.Needs.{needs}
-use Rattle.encoding.specs.Answers.{answerOf}
+use Rattle.encoding.specs.Cases.{answerOf}
 use Rattle.encoding.proofs.Putting.{judged-good, sized-refused, sized-done}
 use Rattle.encoding.proofs.Via.{via}
 use Rattle.boolean_encoder.proofs.Writing.{judged-flags}

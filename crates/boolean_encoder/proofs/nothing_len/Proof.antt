@@ -1,7 +1,7 @@
 -- `boolean_encoder::nothing_len` meets its contract: no bytes of a list that is judged good. Assumes nothing.
 use mathlib.Core.Path.{refl}
 use borrow.Author.Needs.{needs}
-use Rattle.encoding.specs.Answers.{answerOf}
+use Rattle.encoding.specs.Cases.{answerOf}
 use Rattle.encoding.proofs.Putting.{sized-refused, sized-done}
 use Rattle.encoding.proofs.Via.{via}
 use Rattle.boolean_encoder.proofs.nothing_len.Statement.{statement}

@@ -2,7 +2,7 @@
 use mathlib.Core.Path.{_∙_, sym, ap}
 use mathlib.Core.Option.{none}
 use denote.Ref.{now}
-use Rattle.encoding.specs.Answers.{answerOf}
+use Rattle.encoding.specs.Cases.{answerOf}
 use Rattle.encoding.specs.Given.{sized}
 use Rattle.encoding.proofs.Via.{via}
 use Rattle.splice.specs.Kinds.{boolean}

@@ -7,7 +7,7 @@ use borrow.Author.Needs.{needs}
 use Rattle.encoding.specs.Limit.{limit}
 use Rattle.encoding.proofs.Via.{via}
 use Rattle.encoding.proofs.Walking.{next-eq, readings-eq, owes, owes-start, owes-on, owes-off, owes-over}
-use Rattle.delta_decoder.specs.Answers.{stepOf}
+use Rattle.delta_decoder.specs.Cases.{stepOf}
 use Rattle.delta_decoder.specs.Sofar.{sofar}
 use Rattle.delta_decoder.proofs.Deltas.{deltas, delta-rest, delta-end}
 use Rattle.delta_decoder.proofs.count.Statement.{statement}

@@ -8,7 +8,7 @@ use Rattle.encoding.specs.Slots.{slotOf, flagOf}
 use Rattle.encoding.proofs.Via.{via}
 use Rattle.encoding.proofs.Walking.{next-eq, readings-eq}
 use Rattle.encoding.proofs.Filling.{Owed, owed-start, owed-room, owed-on, owed-off, owed-over}
-use Rattle.delta_decoder.specs.Answers.{stepOf}
+use Rattle.delta_decoder.specs.Cases.{stepOf}
 use Rattle.delta_decoder.specs.Sofar.{sofar}
 use Rattle.delta_decoder.proofs.Deltas.{deltas, delta-rest, delta-end}
 use Rattle.delta_decoder.proofs.fill.Statement.{statement}

@@ -5,7 +5,7 @@ use mir.Syntax.{w64}
 use mir.Val.{SFits}
 use mir.ValLaws.{toZ-ofZ}
 use borrow.Author.Needs.{needs}
-use Rattle.leb128.specs.Answers.{i64Of}
+use Rattle.leb128.specs.Cases.{i64Of}
 use Rattle.encoding.specs.Slots.{slotOf, flagOf}
 use Rattle.encoding.proofs.Via.{via}
 use Rattle.encoding.proofs.Walking.{next-eq, readings-eq}
@@ -21,8 +21,8 @@ leb128-i64-requires c κs = search needs
 enum-known-d : tie.Need-enum-known-d
 enum-known-d c = search needs
 
-fill-again-requires : tie.Need-fill-again-requires
-fill-again-requires c κs =
+fill-sums-requires : tie.Need-fill-sums-requires
+fill-sums-requires c κs =
     let p = c .before .before .before in
     let b = p .before .before in
     let h = b .before .before .before .pre in
@@ -45,7 +45,7 @@ returns c =
     let b = p .before .before in
     let d = p .d .given .0 .0 in
     let f : SFits w64 d = search needs in
-    rw (via i64Of (b .leb128-i64 .ensures) (p .d .given .1)) (rw (toZ-ofZ w64 d f) at (c .before .before .before .fill-again .ensures))
+    rw (via i64Of (b .leb128-i64 .ensures) (p .d .given .1)) (rw (toZ-ofZ w64 d f) at (c .before .before .before .fill-sums .ensures))
 
 returns-2 : tie.Need-returns-2
 returns-2 c =
@@ -60,7 +60,7 @@ fill-repeat-spec =
     (tie.spec
     leb128-i64-requires
     enum-known-d
-    fill-again-requires
+    fill-sums-requires
     enum-known-k
     same-length
     same-length-2

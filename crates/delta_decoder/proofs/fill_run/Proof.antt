@@ -3,14 +3,14 @@ use mathlib.Core.Path.{sym, _∙_}
 use native.Mathlib.Omega.{arith}
 use lib.IntN.{pos}
 use borrow.Author.Needs.{needs}
-use Rattle.encoding.specs.Answers.{headOf}
+use Rattle.encoding.specs.Cases.{headOf}
 use Rattle.encoding.specs.Column.{absent}
 use Rattle.encoding.specs.Slots.{slotOf, flagOf}
 use Rattle.encoding.proofs.Via.{via}
 use Rattle.encoding.proofs.Walking.{next-eq, readings-eq}
 use Rattle.encoding.proofs.Columns.{head-known}
 use Rattle.encoding.proofs.Filling.{room-eq, room-same, wrote-eq, wrote-same, wrote-none}
-use Rattle.delta_decoder.proofs.Deltas.{delta-again, delta-singly, delta-gone, delta-amiss}
+use Rattle.delta_decoder.proofs.Deltas.{delta-repeat, delta-literal, delta-absent, delta-amiss}
 use Rattle.delta_decoder.proofs.fill_run.Statement.{statement}
 use Rattle.delta_decoder.proofs.fill_run.Tie as tie
 
@@ -26,38 +26,38 @@ fill-repeat-requires c κs =
     let b = a .before .before in
     let h = b .before .before .before .pre in
     let r = via headOf (b .head-at .ensures) (a .c .given .1) in
-    let e = delta-again _ _ _ _ _ _ (h .0 .0) r in
+    let e = delta-repeat _ _ _ _ _ _ (h .0 .0) r in
     (head-known _ _ _ _ r .2, room-eq (readings-eq e) (h .1))
 
 enum-known-c-2 : tie.Need-enum-known-c-2
 enum-known-c-2 c = search needs
 
-add-fill-singles : tie.Need-add-fill-singles
-add-fill-singles c =
+add-fill-literal : tie.Need-add-fill-literal
+add-fill-literal c =
     let a = c .before in
     let b = a .before .before in
     let h = head-known _ _ _ _ (via headOf (b .head-at .ensures) (a .c2 .given .1)) in
     omega arith
 
-fill-singles-requires : tie.Need-fill-singles-requires
-fill-singles-requires c κs =
+fill-literal-requires : tie.Need-fill-literal-requires
+fill-literal-requires c κs =
     let a = c .before .before .before in
     let b = a .before .before in
     let h = b .before .before .before .pre in
     let r = via headOf (b .head-at .ensures) (a .c2 .given .1) in
-    let e = delta-singly _ _ _ _ _ _ (h .0 .0) r in
+    let e = delta-literal _ _ _ _ _ _ (h .0 .0) r in
     room-eq (readings-eq e) (h .1)
 
 enum-known-c-3 : tie.Need-enum-known-c-3
 enum-known-c-3 c = search needs
 
-fill-gone-requires : tie.Need-fill-gone-requires
-fill-gone-requires c κs =
+fill-absent-requires : tie.Need-fill-absent-requires
+fill-absent-requires c κs =
     let a = c .before .before .before in
     let b = a .before .before in
     let h = b .before .before .before .pre in
     let r = via headOf (b .head-at .ensures) (a .c3 .given .1) in
-    let e = delta-gone _ _ _ _ _ _ (h .0 .0) r in
+    let e = delta-absent _ _ _ _ _ _ (h .0 .0) r in
     (room-same _ _ absent (room-eq (readings-eq e) (h .1)), h .1 .even)
 
 add-t33 : tie.Need-add-t33
@@ -82,7 +82,7 @@ returns c =
     let b = a .before .before in
     let h = b .before .before .before .pre in
     let r = via headOf (b .head-at .ensures) (a .c .given .1) in
-    let e = delta-again _ _ _ _ _ _ (h .0 .0) r in
+    let e = delta-repeat _ _ _ _ _ _ (h .0 .0) r in
     let w = c .before .before .before .fill-repeat .ensures in
     (w .0 ∙ sym (next-eq e), wrote-eq (sym (readings-eq e)) (w .1))
 
@@ -98,8 +98,8 @@ returns-2 c =
     let b = a .before .before in
     let h = b .before .before .before .pre in
     let r = via headOf (b .head-at .ensures) (a .c2 .given .1) in
-    let e = delta-singly _ _ _ _ _ _ (h .0 .0) r in
-    let w = c .before .before .before .fill-singles .ensures in
+    let e = delta-literal _ _ _ _ _ _ (h .0 .0) r in
+    let w = c .before .before .before .fill-literal .ensures in
     (w .0 ∙ sym (next-eq e), wrote-eq (sym (readings-eq e)) (w .1))
 
 same-length-5 : tie.Need-same-length-5
@@ -114,8 +114,8 @@ returns-3 c =
     let b = a .before .before in
     let h = b .before .before .before .pre in
     let r = via headOf (b .head-at .ensures) (a .c3 .given .1) in
-    let e = delta-gone _ _ _ _ _ _ (h .0 .0) r in
-    let w = c .before .before .before .fill-gone .ensures in
+    let e = delta-absent _ _ _ _ _ _ (h .0 .0) r in
+    let w = c .before .before .before .fill-absent .ensures in
     (sym (next-eq e), wrote-eq (sym (readings-eq e)) (wrote-same (slotOf (pos 0)) flagOf absent (a .c3 .given .0 .0) _ _ _ _ _ (w .0) (w .1)))
 
 returns-4 : tie.Need-returns-4
@@ -135,10 +135,10 @@ fill-run-spec =
     enum-known-c
     fill-repeat-requires
     enum-known-c-2
-    add-fill-singles
-    fill-singles-requires
+    add-fill-literal
+    fill-literal-requires
     enum-known-c-3
-    fill-gone-requires
+    fill-absent-requires
     add-t33
     enum-known-k
     same-length

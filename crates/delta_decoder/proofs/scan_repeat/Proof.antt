@@ -5,11 +5,11 @@ use mir.Syntax.{w64}
 use mir.Val.{SFits}
 use mir.ValLaws.{toZ-ofZ}
 use borrow.Author.Needs.{needs}
-use Rattle.leb128.specs.Answers.{i64Of}
+use Rattle.leb128.specs.Cases.{i64Of}
 use Rattle.encoding.proofs.Via.{via}
 use Rattle.encoding.proofs.Walking.{next-eq}
 use Rattle.encoding.proofs.Columns.{repeated-bad}
-use Rattle.delta_decoder.specs.Answers.{sumIs}
+use Rattle.delta_decoder.specs.Cases.{sumIs}
 use Rattle.delta_decoder.proofs.Summing.{repeated-next, summing-end}
 use Rattle.delta_decoder.proofs.scan_repeat.Statement.{statement}
 use Rattle.delta_decoder.proofs.scan_repeat.Tie as tie

@@ -2,11 +2,11 @@
 use mathlib.Core.Path.{sym, _∙_}
 use native.Mathlib.Omega.{arith}
 use borrow.Author.Needs.{needs}
-use Rattle.encoding.specs.Answers.{headOf}
+use Rattle.encoding.specs.Cases.{headOf}
 use Rattle.encoding.proofs.Via.{via}
 use Rattle.encoding.proofs.Walking.{next-eq}
 use Rattle.encoding.proofs.Columns.{head-known}
-use Rattle.delta_decoder.proofs.Deltas.{delta-again, delta-singly, delta-gone, delta-amiss}
+use Rattle.delta_decoder.proofs.Deltas.{delta-repeat, delta-literal, delta-absent, delta-amiss}
 use Rattle.delta_decoder.proofs.scan_run.Statement.{statement}
 use Rattle.delta_decoder.proofs.scan_run.Tie as tie
 
@@ -25,15 +25,15 @@ scan-repeat-requires c κs =
 enum-known-c-2 : tie.Need-enum-known-c-2
 enum-known-c-2 c = search needs
 
-add-scan-singles : tie.Need-add-scan-singles
-add-scan-singles c =
+add-scan-literal : tie.Need-add-scan-literal
+add-scan-literal c =
     let a = c .before in
     let b = a .before .before in
     let h = head-known _ _ _ _ (via headOf (b .head-at .ensures) (a .c2 .given .1)) in
     omega arith
 
-scan-singles-requires : tie.Need-scan-singles-requires
-scan-singles-requires c κs = search needs
+scan-literal-requires : tie.Need-scan-literal-requires
+scan-literal-requires c κs = search needs
 
 enum-known-c-3 : tie.Need-enum-known-c-3
 enum-known-c-3 c = search needs
@@ -52,21 +52,21 @@ returns : tie.Need-returns
 returns c =
     let a = c .before .before in
     let b = a .before .before in
-    let e = delta-again _ _ _ _ _ _ (b .before .before .pre .0) (via headOf (b .head-at .ensures) (a .c .given .1)) in
+    let e = delta-repeat _ _ _ _ _ _ (b .before .before .pre .0) (via headOf (b .head-at .ensures) (a .c .given .1)) in
     c .scan-repeat .ensures ∙ sym (next-eq e)
 
 returns-2 : tie.Need-returns-2
 returns-2 c =
     let a = c .before .before in
     let b = a .before .before in
-    let e = delta-singly _ _ _ _ _ _ (b .before .before .pre .0) (via headOf (b .head-at .ensures) (a .c2 .given .1)) in
-    c .scan-singles .ensures ∙ sym (next-eq e)
+    let e = delta-literal _ _ _ _ _ _ (b .before .before .pre .0) (via headOf (b .head-at .ensures) (a .c2 .given .1)) in
+    c .scan-literal .ensures ∙ sym (next-eq e)
 
 returns-3 : tie.Need-returns-3
 returns-3 c =
     let a = c .before in
     let b = a .before .before in
-    let e = delta-gone _ _ _ _ _ _ (b .before .before .pre .0) (via headOf (b .head-at .ensures) (a .c3 .given .1)) in
+    let e = delta-absent _ _ _ _ _ _ (b .before .before .pre .0) (via headOf (b .head-at .ensures) (a .c3 .given .1)) in
     sym (next-eq e)
 
 returns-4 : tie.Need-returns-4
@@ -84,8 +84,8 @@ scan-run-spec =
     enum-known-c
     scan-repeat-requires
     enum-known-c-2
-    add-scan-singles
-    scan-singles-requires
+    add-scan-literal
+    scan-literal-requires
     enum-known-c-3
     add-t16
     enum-known-k

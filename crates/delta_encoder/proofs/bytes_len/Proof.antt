@@ -13,7 +13,7 @@ use Rattle.delta_encoder.specs.Ahead.{diffs, lastOf, lastBefore}
 use Rattle.delta_decoder.specs.Difference.{i64E}
 use Rattle.delta_decoder.proofs.DifferenceLaws.{i64-laws, i64-ten}
 use Rattle.delta_encoder.proofs.Differing.{diffs-length, flags}
-use Rattle.delta_encoder.proofs.Passing.{piece-within}
+use Rattle.delta_encoder.proofs.Passing.{stretch-within}
 use Rattle.delta_encoder.proofs.Taking.{read-back, past}
 use Rattle.delta_encoder.proofs.bytes_len.Statement.{statement}
 use Rattle.delta_encoder.proofs.bytes_len.Tie as tie
@@ -31,11 +31,11 @@ loop-holds : tie.Need-loop-holds Inv-loop μ-loop
 unfolding lastOf
 loop-holds c = (omega arith, refl, omega arith)
 
-piece-at-requires : tie.Need-piece-at-requires Inv-loop μ-loop
-piece-at-requires c κs = (c .before .before .before .pre .0, (c .loop-test .taken, c .before .loop .inv .1))
+stretch-at-requires : tie.Need-stretch-at-requires Inv-loop μ-loop
+stretch-at-requires c κs = (c .before .before .before .pre .0, (c .loop-test .taken, c .before .loop .inv .1))
 
-piece-len-requires : tie.Need-piece-len-requires Inv-loop μ-loop
-piece-len-requires c κs = (c .before .before .before .before .pre, (c .before .before .loop .inv .1, c .piece-at .ensures))
+stretch-len-requires : tie.Need-stretch-len-requires Inv-loop μ-loop
+stretch-len-requires c κs = (c .before .before .before .before .pre, (c .before .before .loop .inv .1, c .stretch-at .ensures))
 
 add-n : tie.Need-add-n Inv-loop μ-loop
 add-n c =
@@ -44,17 +44,17 @@ add-n c =
     let p = a .args .present .now in
     let N = a .pre .0 in
     let h = c .before .before .before .loop .inv in
-    let e = bytes-length i64E (pos 0) _ _ _ _ (c .before .piece-at .ensures) in
+    let e = bytes-length i64E (pos 0) _ _ _ _ (c .before .stretch-at .ensures) in
     omega (arith, bytes-short i64E i64-laws i64-ten (diffs v p) p (flags v p (N .even)), diffs-length (pos 0) v p (N .even), a .pre .1)
 
-piece-last-requires : tie.Need-piece-last-requires Inv-loop μ-loop
-piece-last-requires c κs = (c .before .before .before .before .before .pre .0 .even, (c .before .before .before .loop .inv .1, c .before .piece-at .ensures))
+stretch-last-requires : tie.Need-stretch-last-requires Inv-loop μ-loop
+stretch-last-requires c κs = (c .before .before .before .before .before .pre .0 .even, (c .before .before .before .loop .inv .1, c .before .stretch-at .ensures))
 
-piece-end-requires : tie.Need-piece-end-requires Inv-loop μ-loop
-piece-end-requires c κs = search needs
+stretch-end-requires : tie.Need-stretch-end-requires Inv-loop μ-loop
+stretch-end-requires c κs = search needs
 
 loop-less : tie.Need-loop-less Inv-loop μ-loop
-loop-less c = let l = c .before .before .before .piece-at .ensures .later in omega arith
+loop-less c = let l = c .before .before .before .stretch-at .ensures .later in omega arith
 
 loop-again : tie.Need-loop-again Inv-loop μ-loop
 loop-again c =
@@ -62,11 +62,11 @@ loop-again c =
     let v = a .args .values .now in
     let p = a .args .present .now in
     let h = c .before .before .before .before .before .loop .inv in
-    let q = c .before .before .before .piece-at .ensures in
-    let z = c .piece-end .ensures in
+    let q = c .before .before .before .stretch-at .ensures in
+    let z = c .stretch-end .ensures in
     let e = bytes-length i64E (pos 0) _ _ _ _ q in (
-      omega (arith, piece-within v p (a .pre .0 .even) _ _ q),
-      read-back (c .before .piece-last .ok) ∙ c .before .piece-last .ensures ∙ ap (lastBefore v p) (sym z),
+      omega (arith, stretch-within v p (a .pre .0 .even) _ _ q),
+      read-back (c .before .stretch-last .ok) ∙ c .before .stretch-last .ensures ∙ ap (lastBefore v p) (sym z),
       omega (arith, ap (λ (k : ℕ). length (bytesFrom i64E (diffs v p) p k)) z),
     )
 
@@ -84,11 +84,11 @@ bytes-len-spec =
     Inv-loop
     μ-loop
     loop-holds
-    piece-at-requires
-    piece-len-requires
+    stretch-at-requires
+    stretch-len-requires
     add-n
-    piece-last-requires
-    piece-end-requires
+    stretch-last-requires
+    stretch-end-requires
     loop-less
     loop-again
     returns)

@@ -1,9 +1,9 @@
 -- `delta_encoder::judge` meets its contract: one law for each way out. Assumes nothing.
 use borrow.Author.Needs.{needs}
-use Rattle.encoding.specs.Answers.{answerOf}
+use Rattle.encoding.specs.Cases.{answerOf}
 use Rattle.encoding.proofs.Putting.{judged-good}
 use Rattle.encoding.proofs.Via.{via}
-use Rattle.delta_encoder.specs.Answers.{widthOf}
+use Rattle.delta_encoder.specs.Cases.{widthOf}
 use Rattle.delta_encoder.proofs.Writing.{judged-narrow, judged-wide, judged-refused}
 use Rattle.delta_encoder.proofs.judge.Statement.{statement}
 use Rattle.delta_encoder.proofs.judge.Tie as tie

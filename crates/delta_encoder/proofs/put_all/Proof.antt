@@ -14,7 +14,7 @@ use Rattle.encoding.specs.Writer.{stretchBytes}
 use Rattle.encoding.proofs.Putting.{bytes-cut, bytes-length, bytes-end, put-part, put-done}
 use Rattle.delta_encoder.specs.Ahead.{diffs, lastOf, lastBefore}
 use Rattle.delta_decoder.specs.Difference.{i64E}
-use Rattle.delta_encoder.proofs.Passing.{piece-within}
+use Rattle.delta_encoder.proofs.Passing.{stretch-within}
 use Rattle.delta_encoder.proofs.Taking.{read-back, past}
 use Rattle.delta_encoder.proofs.put_all.Statement.{statement}
 use Rattle.delta_encoder.proofs.put_all.Tie as tie
@@ -34,28 +34,28 @@ loop-holds : tie.Need-loop-holds Inv-loop μ-loop
 unfolding lastOf
 loop-holds c = (omega arith, refl, refl, omega (arith, c .before .before .pre .1), refl)
 
-piece-at-requires : tie.Need-piece-at-requires Inv-loop μ-loop
-piece-at-requires c κs = (c .before .before .before .before .pre .0 .0, (c .loop-test .taken, c .before .loop .inv .2))
+stretch-at-requires : tie.Need-stretch-at-requires Inv-loop μ-loop
+stretch-at-requires c κs = (c .before .before .before .before .pre .0 .0, (c .loop-test .taken, c .before .loop .inv .2))
 
-put-piece-requires : tie.Need-put-piece-requires Inv-loop μ-loop
-put-piece-requires c κs =
-    let q = c .before .piece-at .ensures in
+put-stretch-requires : tie.Need-put-stretch-requires Inv-loop μ-loop
+put-stretch-requires c κs =
+    let q = c .before .stretch-at .ensures in
     let h = c .before .before .before .loop .inv in
     let e = bytes-length i64E (pos 0) _ _ _ _ q in
     (c .before .before .before .before .before .before .pre .0, (h .2, (q, omega arith)))
 
-piece-last-requires : tie.Need-piece-last-requires Inv-loop μ-loop
-piece-last-requires c κs =
+stretch-last-requires : tie.Need-stretch-last-requires Inv-loop μ-loop
+stretch-last-requires c κs =
     let N = c .before .before .before .before .before .before .before .before .before .pre .0 .0 in
-    (N .even, (c .before .before .before .before .before .before .loop .inv .2, c .before .before .before .before .piece-at .ensures))
+    (N .even, (c .before .before .before .before .before .before .loop .inv .2, c .before .before .before .before .stretch-at .ensures))
 
-piece-end-requires : tie.Need-piece-end-requires Inv-loop μ-loop
-piece-end-requires c κs = search needs
+stretch-end-requires : tie.Need-stretch-end-requires Inv-loop μ-loop
+stretch-end-requires c κs = search needs
 
 loop-less : tie.Need-loop-less Inv-loop μ-loop
 loop-less c =
-    let l = c .before .before .before .before .before .before .piece-at .ensures .later in
-    let z = c .piece-end .ensures in
+    let l = c .before .before .before .before .before .before .stretch-at .ensures .later in
+    let z = c .stretch-end .ensures in
     omega (arith, c .before .before .before .before .before .before .before .loop-test .taken)
 
 loop-again : tie.Need-loop-again Inv-loop μ-loop
@@ -65,17 +65,17 @@ loop-again c =
     let p = s .args .present .now in
     let o = c .before .before .before .before .before .before .before .before .loop in
     let h = o .inv in
-    let x = c .before .before .before .before .before .before .piece-at in
+    let x = c .before .before .before .before .before .before .stretch-at in
     let q = x .ensures in
-    let w = piece-within v p (s .pre .0 .0 .even) _ _ q in
-    let z = c .piece-end .ensures in
-    let u = c .before .before .before .before .put-piece .ensures in
+    let w = stretch-within v p (s .pre .0 .0 .even) _ _ q in
+    let z = c .stretch-end .ensures in
+    let u = c .before .before .before .before .put-stretch .ensures in
     let b = stretchBytes i64E (stretchOf (pos 0) (diffs v p) (o .i) (x .result)) in
     let e = bytes-cut i64E (pos 0) _ _ _ _ q ∙ ap (λ (k : ℕ). b ++ bytesFrom i64E (diffs v p) p k) (sym z) in
     let l = bytes-length i64E (pos 0) _ _ _ _ q ∙ ap (λ (k : ℕ). length b + length (bytesFrom i64E (diffs v p) p k)) (sym z) in (
       omega arith,
-      c .before .before .before .before .put-piece .kept .1 .1 .1 .1 .1 .0 ∙ h .1,
-      read-back (c .before .piece-last .ok) ∙ c .before .piece-last .ensures ∙ ap (lastBefore v p) (sym z),
+      c .before .before .before .before .put-stretch .kept .1 .1 .1 .1 .1 .0 ∙ h .1,
+      read-back (c .before .stretch-last .ok) ∙ c .before .stretch-last .ensures ∙ ap (lastBefore v p) (sym z),
       omega (arith, u .after),
       h .4 ∙ put-part _ _ e u,
     )
@@ -98,10 +98,10 @@ put-all-spec =
     Inv-loop
     μ-loop
     loop-holds
-    piece-at-requires
-    put-piece-requires
-    piece-last-requires
-    piece-end-requires
+    stretch-at-requires
+    put-stretch-requires
+    stretch-last-requires
+    stretch-end-requires
     loop-less
     loop-again
     same-length

@@ -2,7 +2,7 @@
 use mir.Syntax.{w64}
 use mir.ValLaws.{toZ-ofZ}
 use borrow.Author.Needs.{needs}
-use Rattle.leb128_writer.specs.Answers.{writtenOf}
+use Rattle.leb128_writer.specs.Cases.{writtenOf}
 use Rattle.encoding.proofs.Via.{via}
 use Rattle.encoding.proofs.Placing.{placed, not-refused}
 use Rattle.delta_encoder.proofs.put_signed.Statement.{statement}

@@ -1,7 +1,7 @@
 -- `given_list::judge_list` meets its contract: each way out is a case of its definition. Assumes nothing.
 use borrow.Author.Needs.{needs}
 use borrow.Author.Tests.{le-leb, lt-leb, eq-eqb, ne-eqb}
-use Rattle.given_list.specs.Answers.{flagsOf}
+use Rattle.given_list.specs.Cases.{flagsOf}
 use Rattle.encoding.specs.Given.{flagsJudged, listJudged}
 use Rattle.encoding.proofs.Via.{via}
 use Rattle.given_list.proofs.judge_list.Statement.{statement}

@@ -2,7 +2,7 @@
 use mathlib.Core.Path.{sym, ap, _∙_}
 use borrow.Author.Tests.{le-leb, lt-leb}
 use borrow.Author.Needs.{needs}
-use Rattle.leb128.specs.Answers.{u64Of}
+use Rattle.leb128.specs.Cases.{u64Of}
 use Rattle.leb128.specs.Read.{u32At}
 use Rattle.leb128.proofs.leb128_u32.Statement.{statement}
 use Rattle.leb128.proofs.leb128_u32.Tie as tie

@@ -2,7 +2,7 @@
 use mathlib.Core.Path.{sym, ap, _∙_}
 use borrow.Author.Tests.{eq-eqb, ne-eqb}
 use borrow.Author.Needs.{needs}
-use Rattle.leb128.specs.Answers.{u64Of}
+use Rattle.leb128.specs.Cases.{u64Of}
 use Rattle.leb128.specs.Read.{nonzeroAt}
 use Rattle.leb128.proofs.nonzero_leb128_u64.Statement.{statement}
 use Rattle.leb128.proofs.nonzero_leb128_u64.Tie as tie

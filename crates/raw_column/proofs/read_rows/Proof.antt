@@ -3,7 +3,7 @@ use mathlib.Core.Path.{_∙_, ap}
 use Prim.Native.Nat.{_-_}
 use native.Mathlib.Omega.{arith}
 use borrow.Author.Needs.{needs}
-use Rattle.leb128.specs.Answers.{u32Of, u64Of}
+use Rattle.leb128.specs.Cases.{u32Of, u64Of}
 use Rattle.encoding.proofs.Via.{via}
 use Rattle.raw_column.specs.Rows.{rowsOf}
 use Rattle.raw_column.proofs.Opening.{Going, going-start, going-bad, going-bad-len, going-turn, going-out}

@@ -2,7 +2,7 @@
 use mathlib.Core.Path.{_∙_, ap}
 use borrow.Author.Needs.{needs}
 use denote.Ref.{now}
-use Rattle.leb128.specs.Answers.{u64Of}
+use Rattle.leb128.specs.Cases.{u64Of}
 use Rattle.encoding.proofs.Via.{via}
 use Rattle.raw_column.specs.Rows.{opened}
 use Rattle.raw_column.proofs.Opening.{table-bad, table-11, table-rows-bad, rows-good, table-judged}

@@ -9,7 +9,7 @@ use Rattle.encoding.specs.Limit.{limit}
 use Rattle.encoding.proofs.Via.{via}
 use Rattle.encoding.proofs.Walking.{next-eq, readings-eq, owes, owes-start, owes-on, owes-off, owes-over}
 use Rattle.encoding.proofs.Columns.{run-end, trace-rest}
-use Rattle.rle_decoder.specs.Answers.{stepOf}
+use Rattle.rle_decoder.specs.Cases.{stepOf}
 use Rattle.rle_decoder.specs.Word.{u64E}
 use Rattle.rle_decoder.proofs.WordLaws.{u64-laws}
 use Rattle.rle_decoder.proofs.Words.{words}

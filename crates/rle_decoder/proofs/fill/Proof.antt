@@ -9,7 +9,7 @@ use Rattle.encoding.proofs.Via.{via}
 use Rattle.encoding.proofs.Walking.{next-eq, readings-eq}
 use Rattle.encoding.proofs.Columns.{run-end, trace-rest}
 use Rattle.encoding.proofs.Filling.{Owed, owed-start, owed-room, owed-on, owed-off, owed-over}
-use Rattle.rle_decoder.specs.Answers.{stepOf}
+use Rattle.rle_decoder.specs.Cases.{stepOf}
 use Rattle.rle_decoder.specs.Word.{u64E}
 use Rattle.rle_decoder.proofs.WordLaws.{u64-laws}
 use Rattle.rle_decoder.proofs.Words.{words}

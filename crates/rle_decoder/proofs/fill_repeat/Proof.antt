@@ -1,7 +1,7 @@
 -- `rle_decoder::fill_repeat` meets its contract: the value was read and stands in each slot, or its refusal passed on. Assumes nothing.
 use mathlib.Core.Path.{refl}
 use borrow.Author.Needs.{needs}
-use Rattle.leb128.specs.Answers.{u64Of}
+use Rattle.leb128.specs.Cases.{u64Of}
 use Rattle.encoding.specs.Column.{present}
 use Rattle.encoding.specs.Slots.{slotOf, flagOf}
 use Rattle.encoding.proofs.Via.{via}

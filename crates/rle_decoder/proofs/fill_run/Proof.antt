@@ -2,8 +2,8 @@
 use mathlib.Core.Path.{refl}
 use native.Mathlib.Omega.{arith}
 use borrow.Author.Needs.{needs}
-use Rattle.encoding.specs.Answers.{headOf}
-use Rattle.encoding.specs.Column.{absent, opened}
+use Rattle.encoding.specs.Cases.{headOf}
+use Rattle.encoding.specs.Column.{absent, runOf}
 use Rattle.encoding.specs.Slots.{slotOf, flagOf}
 use Rattle.encoding.proofs.Via.{via}
 use Rattle.encoding.proofs.Walking.{readings-eq}
@@ -21,7 +21,7 @@ enum-known-c : tie.Need-enum-known-c
 enum-known-c c = search needs
 
 fill-repeat-requires : tie.Need-fill-repeat-requires
-unfolding opened
+unfolding runOf
 fill-repeat-requires c κs =
     let a = c .before .before .before in
     let b = a .before .before in
@@ -33,17 +33,17 @@ fill-repeat-requires c κs =
 enum-known-c-2 : tie.Need-enum-known-c-2
 enum-known-c-2 c = search needs
 
-add-fill-singles : tie.Need-add-fill-singles
-add-fill-singles c =
+add-fill-literal : tie.Need-add-fill-literal
+add-fill-literal c =
     let a = c .before in
     let b = a .before .before in
     let r = via headOf (b .head-at .ensures) (a .c2 .given .1) in
     let h = head-known _ _ _ _ r in
     omega arith
 
-fill-singles-requires : tie.Need-fill-singles-requires
-unfolding opened
-fill-singles-requires c κs =
+fill-literal-requires : tie.Need-fill-literal-requires
+unfolding runOf
+fill-literal-requires c κs =
     let a = c .before .before .before in
     let b = a .before .before in
     let r = via headOf (b .head-at .ensures) (a .c2 .given .1) in
@@ -55,7 +55,7 @@ enum-known-c-3 : tie.Need-enum-known-c-3
 enum-known-c-3 c = search needs
 
 fill-same-requires : tie.Need-fill-same-requires
-unfolding opened
+unfolding runOf
 fill-same-requires c κs =
     let a = c .before .before .before in
     let b = a .before .before in
@@ -82,7 +82,7 @@ same-length-2 : tie.Need-same-length-2
 same-length-2 c = search needs
 
 returns : tie.Need-returns
-unfolding opened
+unfolding runOf
 returns c =
     let a = c .before .before .before .before .before .before .before .before in
     let b = a .before .before in
@@ -99,14 +99,14 @@ same-length-4 : tie.Need-same-length-4
 same-length-4 c = search needs
 
 returns-2 : tie.Need-returns-2
-unfolding opened
+unfolding runOf
 returns-2 c =
     let a = c .before .before .before .before .before .before .before .before in
     let b = a .before .before in
     let r = via headOf (b .head-at .ensures) (a .c2 .given .1) in
     let h = b .before .before .before .before .pre in
     let e = run-head u64E _ _ _ _ (h .0 .0) r in
-    let w = c .before .before .before .before .fill-singles .ensures in
+    let w = c .before .before .before .before .fill-literal .ensures in
     wrote-run e (w .0) (w .1)
 
 same-length-5 : tie.Need-same-length-5
@@ -116,7 +116,7 @@ same-length-6 : tie.Need-same-length-6
 same-length-6 c = search needs
 
 returns-3 : tie.Need-returns-3
-unfolding opened
+unfolding runOf
 returns-3 c =
     let a = c .before .before .before .before .before .before .before .before in
     let b = a .before .before in
@@ -127,7 +127,7 @@ returns-3 c =
     wrote-run e refl (wrote-same (slotOf 0) flagOf absent (a .c3 .given .0 .0) _ _ _ _ _ (w .0) (w .1))
 
 returns-4 : tie.Need-returns-4
-unfolding opened
+unfolding runOf
 returns-4 c =
     let a = c .before in
     let b = a .before .before in
@@ -144,8 +144,8 @@ fill-run-spec =
     enum-known-c
     fill-repeat-requires
     enum-known-c-2
-    add-fill-singles
-    fill-singles-requires
+    add-fill-literal
+    fill-literal-requires
     enum-known-c-3
     fill-same-requires
     add-t32

@@ -1,7 +1,7 @@
 -- `rle_decoder::scan_repeat` meets its contract: the value was read, or its refusal passed on. Assumes nothing.
 use mathlib.Core.Path.{sym}
 use borrow.Author.Needs.{needs}
-use Rattle.leb128.specs.Answers.{u64Of}
+use Rattle.leb128.specs.Cases.{u64Of}
 use Rattle.encoding.proofs.Via.{via}
 use Rattle.encoding.proofs.Walking.{next-eq}
 use Rattle.encoding.proofs.Columns.{repeated-got, repeated-bad}

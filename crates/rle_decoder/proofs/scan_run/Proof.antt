@@ -2,8 +2,8 @@
 use mathlib.Core.Path.{sym, _∙_}
 use native.Mathlib.Omega.{arith}
 use borrow.Author.Needs.{needs}
-use Rattle.encoding.specs.Answers.{headOf}
-use Rattle.encoding.specs.Column.{opened}
+use Rattle.encoding.specs.Cases.{headOf}
+use Rattle.encoding.specs.Column.{runOf}
 use Rattle.encoding.proofs.Via.{via}
 use Rattle.encoding.proofs.Walking.{next-eq}
 use Rattle.encoding.proofs.Columns.{head-known, run-head}
@@ -27,16 +27,16 @@ scan-repeat-requires c κs =
 enum-known-c-2 : tie.Need-enum-known-c-2
 enum-known-c-2 c = search needs
 
-add-scan-singles : tie.Need-add-scan-singles
-add-scan-singles c =
+add-scan-literal : tie.Need-add-scan-literal
+add-scan-literal c =
     let a = c .before in
     let b = a .before .before in
     let r = via headOf (b .head-at .ensures) (a .c2 .given .1) in
     let h = head-known _ _ _ _ r in
     omega arith
 
-scan-singles-requires : tie.Need-scan-singles-requires
-scan-singles-requires c κs = search needs
+scan-literal-requires : tie.Need-scan-literal-requires
+scan-literal-requires c κs = search needs
 
 enum-known-c-3 : tie.Need-enum-known-c-3
 enum-known-c-3 c = search needs
@@ -53,7 +53,7 @@ enum-known-n : tie.Need-enum-known-n
 enum-known-n c = search needs
 
 returns : tie.Need-returns
-unfolding opened
+unfolding runOf
 returns c =
     let a = c .before .before in
     let b = a .before .before in
@@ -62,16 +62,16 @@ returns c =
     c .scan-repeat .ensures ∙ sym (next-eq e)
 
 returns-2 : tie.Need-returns-2
-unfolding opened
+unfolding runOf
 returns-2 c =
     let a = c .before .before in
     let b = a .before .before in
     let r = via headOf (b .head-at .ensures) (a .c2 .given .1) in
     let e = run-head u64E _ _ _ _ (b .before .before .pre .0) r in
-    c .scan-singles .ensures ∙ sym (next-eq e)
+    c .scan-literal .ensures ∙ sym (next-eq e)
 
 returns-3 : tie.Need-returns-3
-unfolding opened
+unfolding runOf
 returns-3 c =
     let a = c .before in
     let b = a .before .before in
@@ -80,7 +80,7 @@ returns-3 c =
     sym (next-eq e)
 
 returns-4 : tie.Need-returns-4
-unfolding opened
+unfolding runOf
 returns-4 c =
     let a = c .before in
     let b = a .before .before in
@@ -96,8 +96,8 @@ scan-run-spec =
     enum-known-c
     scan-repeat-requires
     enum-known-c-2
-    add-scan-singles
-    scan-singles-requires
+    add-scan-literal
+    scan-literal-requires
     enum-known-c-3
     add-t15
     enum-known-n

@@ -21,32 +21,32 @@ abbrev μ-loop : tie.MeasureT-loop
 loop-holds : tie.Need-loop-holds Inv-loop μ-loop
 loop-holds c = (omega arith, omega arith)
 
-piece-at-requires : tie.Need-piece-at-requires Inv-loop μ-loop
-piece-at-requires c κs = (c .loop-test .taken, c .before .before .before .before .pre .0)
+stretch-at-requires : tie.Need-stretch-at-requires Inv-loop μ-loop
+stretch-at-requires c κs = (c .loop-test .taken, c .before .before .before .before .pre .0)
 
-piece-len-requires : tie.Need-piece-len-requires Inv-loop μ-loop
-piece-len-requires c κs = let p = c .piece-at .ensures in (p .later, p .within, c .before .before .before .before .before .pre .1)
+stretch-len-requires : tie.Need-stretch-len-requires Inv-loop μ-loop
+stretch-len-requires c κs = let p = c .stretch-at .ensures in (p .later, p .within, c .before .before .before .before .before .pre .1)
 
 add-n : tie.Need-add-n Inv-loop μ-loop
 add-n c =
     let a = c .before .before .before .before .before .before in
     let h = c .before .before .before .loop .inv in
-    let e = bytes-length u64E 0 _ _ _ _ (c .before .piece-at .ensures) in
+    let e = bytes-length u64E 0 _ _ _ _ (c .before .stretch-at .ensures) in
     let s = bytes-short u64E u64-laws u64-ten (a .args .values .now) (a .args .present .now) (a .pre .0) in
     omega arith
 
-piece-end-requires : tie.Need-piece-end-requires Inv-loop μ-loop
-piece-end-requires c κs = search needs
+stretch-end-requires : tie.Need-stretch-end-requires Inv-loop μ-loop
+stretch-end-requires c κs = search needs
 
 loop-less : tie.Need-loop-less Inv-loop μ-loop
-loop-less c = let l = c .before .before .piece-at .ensures .later in omega arith
+loop-less c = let l = c .before .before .stretch-at .ensures .later in omega arith
 
 loop-again : tie.Need-loop-again Inv-loop μ-loop
 loop-again c =
     let h = c .before .before .before .before .loop .inv in
-    let p = c .before .before .piece-at .ensures in
+    let p = c .before .before .stretch-at .ensures in
     let w = p .within in
-    let e = rw (← (c .piece-end .ensures)) at (bytes-length u64E 0 _ _ _ _ p) in
+    let e = rw (← (c .stretch-end .ensures)) at (bytes-length u64E 0 _ _ _ _ p) in
     (omega arith, omega arith)
 
 returns : tie.Need-returns Inv-loop μ-loop
@@ -62,10 +62,10 @@ bytes-len-spec =
     Inv-loop
     μ-loop
     loop-holds
-    piece-at-requires
-    piece-len-requires
+    stretch-at-requires
+    stretch-len-requires
     add-n
-    piece-end-requires
+    stretch-end-requires
     loop-less
     loop-again
     returns)

@@ -24,35 +24,35 @@ abbrev μ-loop : tie.MeasureT-loop
 loop-holds : tie.Need-loop-holds Inv-loop μ-loop
 loop-holds c = (omega arith, refl, omega (arith, c .before .before .before .pre .1), refl)
 
-piece-at-requires : tie.Need-piece-at-requires Inv-loop μ-loop
-piece-at-requires c κs = (c .loop-test .taken, c .before .before .before .before .before .pre .0 .0)
+stretch-at-requires : tie.Need-stretch-at-requires Inv-loop μ-loop
+stretch-at-requires c κs = (c .loop-test .taken, c .before .before .before .before .before .pre .0 .0)
 
-put-piece-requires : tie.Need-put-piece-requires Inv-loop μ-loop
-put-piece-requires c κs =
-    let p = c .before .piece-at .ensures in
+put-stretch-requires : tie.Need-put-stretch-requires Inv-loop μ-loop
+put-stretch-requires c κs =
+    let p = c .before .stretch-at .ensures in
     let h = c .before .before .before .loop .inv in
     let e = bytes-length u64E 0 _ _ _ _ p in
     ((p .later, p .within, c .before .before .before .before .before .before .before .pre .0 .1), omega arith)
 
-piece-end-requires : tie.Need-piece-end-requires Inv-loop μ-loop
-piece-end-requires c κs = search needs
+stretch-end-requires : tie.Need-stretch-end-requires Inv-loop μ-loop
+stretch-end-requires c κs = search needs
 
 loop-less : tie.Need-loop-less Inv-loop μ-loop
 loop-less c =
-    let l = c .before .before .before .before .before .piece-at .ensures .later in
-    let z = c .piece-end .ensures in
+    let l = c .before .before .before .before .before .stretch-at .ensures .later in
+    let z = c .stretch-end .ensures in
     omega (arith, c .before .before .before .before .before .before .loop-test .taken)
 
 loop-again : tie.Need-loop-again Inv-loop μ-loop
 loop-again c =
     let h = c .before .before .before .before .before .before .before .loop .inv in
-    let p = c .before .before .before .before .before .piece-at .ensures in
+    let p = c .before .before .before .before .before .stretch-at .ensures in
     let w = p .within in
-    let z = c .piece-end .ensures in
-    let u = c .before .before .before .put-piece .ensures in
+    let z = c .stretch-end .ensures in
+    let u = c .before .before .before .put-stretch .ensures in
     let e = rw (← z) at (bytes-cut u64E 0 _ _ _ _ p) in
     let l = rw (← z) at (bytes-length u64E 0 _ _ _ _ p) in
-    (omega arith, c .before .before .before .put-piece .kept .1 .1 .1 .0 ∙ h .1, omega (arith, u .after), h .3 ∙ put-part _ _ e u)
+    (omega arith, c .before .before .before .put-stretch .kept .1 .1 .1 .0 ∙ h .1, omega (arith, u .after), h .3 ∙ put-part _ _ e u)
 
 same-length : tie.Need-same-length Inv-loop μ-loop
 same-length c = c .before .loop .inv .1
@@ -70,9 +70,9 @@ put-all-spec =
     Inv-loop
     μ-loop
     loop-holds
-    piece-at-requires
-    put-piece-requires
-    piece-end-requires
+    stretch-at-requires
+    put-stretch-requires
+    stretch-end-requires
     loop-less
     loop-again
     same-length

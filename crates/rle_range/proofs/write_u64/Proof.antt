@@ -1,7 +1,7 @@
 -- `rle_range::write_u64` meets its contract: its size, and then the block. Assumes nothing.
 use mathlib.Core.Path.{_∙_, sym, ap}
 use denote.Ref.{now}
-use Rattle.encoding.specs.Answers.{answerOf}
+use Rattle.encoding.specs.Cases.{answerOf}
 use Rattle.encoding.specs.Given.{slotList, sized}
 use Rattle.encoding.proofs.Via.{via}
 use Rattle.splice.specs.Kinds.{integer}

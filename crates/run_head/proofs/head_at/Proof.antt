@@ -8,24 +8,24 @@ use mir.Val.{SFits, toZ, ofZ}
 use borrow.Author.Needs.{needs}
 use borrow.Author.Tests.{ne-eqb}
 use Rattle.leb128.proofs.Twos.{is-neg, is-pos, same}
-use Rattle.leb128.specs.Answers.{i64Of}
+use Rattle.leb128.specs.Cases.{i64Of}
 use Rattle.leb128.specs.Got.{got}
 use Rattle.leb128.specs.Read.{u64At, i64At}
-use Rattle.encoding.specs.Head.{again, singly, judged, goneHead, begun, headAt}
+use Rattle.encoding.specs.Head.{Head, judged, absentHead, begun, headAt}
 use Rattle.encoding.proofs.Via.{via}
 use Rattle.run_head.proofs.head_at.Statement.{statement}
 use Rattle.run_head.proofs.head_at.Tie as tie
 
 module _ (s : List ℕ) (at had : ℕ) {x : ℤ} {q : ℕ} (e : i64At s at ≡ got x q) where
-  negative : {m n : ℕ} → x ≡ negsuc m → n ≡ natAbs x → judged had n at (singly n q) ≡ headAt s at had
+  negative : {m n : ℕ} → x ≡ negsuc m → n ≡ natAbs x → judged had n at (Head.literal n q) ≡ headAt s at had
   unfolding headAt begun
   negative h k = simp (e, h, k)
 
-  nought : x ≡ pos 0 → goneHead had q (u64At s q) ≡ headAt s at had
+  nought : x ≡ pos 0 → absentHead had q (u64At s q) ≡ headAt s at had
   unfolding headAt begun
   nought h = simp (e, h)
 
-  positive : {m n : ℕ} → x ≡ pos m → (m ≡ 0 → ⊥) → n ≡ natAbs x → judged had n at (again n q) ≡ headAt s at had
+  positive : {m n : ℕ} → x ≡ pos m → (m ≡ 0 → ⊥) → n ≡ natAbs x → judged had n at (Head.repeat n q) ≡ headAt s at had
   unfolding headAt begun
   positive h z k = simp (e, h, k, ne-eqb _ 0 z)
 
@@ -38,8 +38,8 @@ enum-known-c c = search needs
 count-of-requires : tie.Need-count-of-requires
 count-of-requires c κs = search needs
 
-singly-at-requires : tie.Need-singly-at-requires
-singly-at-requires c κs = search needs
+literal-at-requires : tie.Need-literal-at-requires
+literal-at-requires c κs = search needs
 
 returns : tie.Need-returns
 returns c =
@@ -48,10 +48,10 @@ returns c =
     let f : SFits w64 x = search needs in
     let r = via i64Of (a .before .before .leb128-i64 .ensures) (a .c .given .1) in
     let n = c .before .count-of .ensures ∙ ap natAbs (same x f) in
-    c .singly-at .ensures ∙ negative _ _ _ r (is-neg x f (c .before .before .if1 .taken)) n
+    c .literal-at .ensures ∙ negative _ _ _ r (is-neg x f (c .before .before .if1 .taken)) n
 
-gone-at-requires : tie.Need-gone-at-requires
-gone-at-requires c κs = search needs
+absent-at-requires : tie.Need-absent-at-requires
+absent-at-requires c κs = search needs
 
 returns-2 : tie.Need-returns-2
 returns-2 c =
@@ -59,13 +59,13 @@ returns-2 c =
     let x = a .c .given .0 .0 in
     let f : SFits w64 x = search needs in
     let r = via i64Of (a .before .before .leb128-i64 .ensures) (a .c .given .1) in
-    c .gone-at .ensures ∙ nought _ _ _ r (sym (same x f) ∙ ap (toZ w64) (c .before .if2 .taken))
+    c .absent-at .ensures ∙ nought _ _ _ r (sym (same x f) ∙ ap (toZ w64) (c .before .if2 .taken))
 
 count-of-requires-2 : tie.Need-count-of-requires-2
 count-of-requires-2 c κs = search needs
 
-again-at-requires : tie.Need-again-at-requires
-again-at-requires c κs = search needs
+repeat-at-requires : tie.Need-repeat-at-requires
+repeat-at-requires c κs = search needs
 
 enum-known-n : tie.Need-enum-known-n
 enum-known-n c = search needs
@@ -78,7 +78,7 @@ returns-3 c =
     let r = via i64Of (a .before .before .leb128-i64 .ensures) (a .c .given .1) in
     let n = c .before .count-of2 .ensures ∙ ap natAbs (same x f) in
     let p = is-pos x f (c .before .before .before .if1 .left) in
-    c .again-at .ensures ∙ positive _ _ _ r p (λ z. c .before .before .if2 .left (ap (ofZ w64) p ∙ z)) n
+    c .repeat-at .ensures ∙ positive _ _ _ r p (λ z. c .before .before .if2 .left (ap (ofZ w64) p ∙ z)) n
 
 returns-4 : tie.Need-returns-4
 unfolding headAt begun
@@ -91,12 +91,12 @@ head-at-spec =
     leb128-i64-requires
     enum-known-c
     count-of-requires
-    singly-at-requires
+    literal-at-requires
     returns
-    gone-at-requires
+    absent-at-requires
     returns-2
     count-of-requires-2
-    again-at-requires
+    repeat-at-requires
     enum-known-n
     returns-3
     returns-4)

@@ -1,5 +1,5 @@
 -- `splice::judge_new` meets its contract: what `judge_list` says, but for 5. Assumes nothing.
-use Rattle.encoding.specs.Answers.{answerOf}
+use Rattle.encoding.specs.Cases.{answerOf}
 use Rattle.encoding.proofs.Via.{via}
 use Rattle.splice.proofs.Planning.{given-uneven, given-done, given-many, given-bad}
 use borrow.Author.Needs.{needs}

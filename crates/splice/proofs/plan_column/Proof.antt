@@ -1,6 +1,6 @@
 -- `splice::plan_column` meets its contract: the column's fault, or what follows its count. Assumes nothing.
 use mathlib.Core.Path.{sym, ap, _∙_}
-use Rattle.encoding.specs.Answers.{answerOf}
+use Rattle.encoding.specs.Cases.{answerOf}
 use Rattle.encoding.proofs.Via.{via}
 use Rattle.splice.specs.Steps.{onCount}
 use borrow.Author.Needs.{needs}

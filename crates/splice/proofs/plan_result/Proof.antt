@@ -1,6 +1,6 @@
 -- `splice::plan_result` meets its contract: the answer, passed on. Assumes nothing.
 use mathlib.Core.Path.{sym, ap}
-use Rattle.encoding.specs.Answers.{answerOf}
+use Rattle.encoding.specs.Cases.{answerOf}
 use Rattle.encoding.proofs.Via.{via}
 use Rattle.splice.specs.Steps.{onResult}
 use borrow.Author.Needs.{needs}

@@ -1,7 +1,7 @@
 -- `capi::answers::answer` meets its contract. Assumes nothing.
 use mathlib.Core.Path.{sym, ap, _∙_}
-use Rattle.encoding.specs.Answers.{answerOf}
-use Rattle.capi.specs.Answers.{counted}
+use Rattle.encoding.specs.Cases.{answerOf}
+use Rattle.capi.specs.Cases.{counted}
 use borrow.Author.Needs.{needs}
 use Rattle.capi.proofs.answers.answer.Statement.{statement}
 use Rattle.capi.proofs.answers.answer.Tie as tie

@@ -3,8 +3,8 @@ use mathlib.Core.Path.{sym, ap}
 use mir.Syntax.{w64}
 use mir.Val.{SFits}
 use mir.ValLaws.{toZ-ofZ}
-use Rattle.leb128.specs.Answers.{i64Of}
-use Rattle.capi.specs.Answers.{numberI64}
+use Rattle.leb128.specs.Cases.{i64Of}
+use Rattle.capi.specs.Cases.{numberI64}
 use borrow.Author.Needs.{needs}
 use Rattle.capi.proofs.answers.number_i64.Statement.{statement}
 use Rattle.capi.proofs.answers.number_i64.Tie as tie

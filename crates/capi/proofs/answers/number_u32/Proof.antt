@@ -1,7 +1,7 @@
 -- `capi::answers::number_u32` meets its contract. Assumes nothing.
 use mathlib.Core.Path.{sym, ap}
-use Rattle.leb128.specs.Answers.{u32Of}
-use Rattle.capi.specs.Answers.{numberU32}
+use Rattle.leb128.specs.Cases.{u32Of}
+use Rattle.capi.specs.Cases.{numberU32}
 use borrow.Author.Needs.{needs}
 use Rattle.capi.proofs.answers.number_u32.Statement.{statement}
 use Rattle.capi.proofs.answers.number_u32.Tie as tie

@@ -1,7 +1,7 @@
 -- `capi::answers::number_u64` meets its contract. Assumes nothing.
 use mathlib.Core.Path.{sym, ap}
-use Rattle.leb128.specs.Answers.{u64Of}
-use Rattle.capi.specs.Answers.{numberU64}
+use Rattle.leb128.specs.Cases.{u64Of}
+use Rattle.capi.specs.Cases.{numberU64}
 use borrow.Author.Needs.{needs}
 use Rattle.capi.proofs.answers.number_u64.Statement.{statement}
 use Rattle.capi.proofs.answers.number_u64.Tie as tie

@@ -1,6 +1,6 @@
 -- `capi::answers::packed` meets its contract. Assumes nothing.
 use mathlib.Core.Path.{sym, ap}
-use Rattle.capi.specs.Answers.{specification}
+use Rattle.capi.specs.Cases.{specification}
 use borrow.Author.Needs.{needs}
 use Rattle.capi.proofs.answers.packed.Statement.{statement}
 use Rattle.capi.proofs.answers.packed.Tie as tie

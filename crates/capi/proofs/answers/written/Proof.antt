@@ -1,7 +1,7 @@
 -- `capi::answers::written` meets its contract. Assumes nothing.
 use mathlib.Core.Path.{sym, ap, _∙_}
-use Rattle.leb128_writer.specs.Answers.{writtenOf}
-use Rattle.capi.specs.Answers.{counted}
+use Rattle.leb128_writer.specs.Cases.{writtenOf}
+use Rattle.capi.specs.Cases.{counted}
 use borrow.Author.Needs.{needs}
 use Rattle.capi.proofs.answers.written.Statement.{statement}
 use Rattle.capi.proofs.answers.written.Tie as tie

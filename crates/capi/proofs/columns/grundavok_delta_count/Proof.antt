@@ -1,6 +1,6 @@
 -- `capi::columns::grundavok_delta_count` meets its contract. Assumes nothing.
 use mathlib.Core.Path.{ap, _∙_}
-use Rattle.capi.specs.Answers.{counted}
+use Rattle.capi.specs.Cases.{counted}
 use borrow.Author.Needs.{needs}
 use Rattle.capi.proofs.columns.grundavok_delta_count.Statement.{statement}
 use Rattle.capi.proofs.columns.grundavok_delta_count.Tie as tie

@@ -1,6 +1,6 @@
 -- `capi::numbers::grundavok_leb128_i64` meets its contract. Assumes nothing.
 use mathlib.Core.Path.{ap, _∙_}
-use Rattle.capi.specs.Answers.{numberI64}
+use Rattle.capi.specs.Cases.{numberI64}
 use borrow.Author.Needs.{needs}
 use Rattle.capi.proofs.numbers.grundavok_leb128_i64.Statement.{statement}
 use Rattle.capi.proofs.numbers.grundavok_leb128_i64.Tie as tie

@@ -1,6 +1,6 @@
 -- `capi::numbers::grundavok_leb128_u32` meets its contract. Assumes nothing.
 use mathlib.Core.Path.{ap, _∙_}
-use Rattle.capi.specs.Answers.{numberU32}
+use Rattle.capi.specs.Cases.{numberU32}
 use borrow.Author.Needs.{needs}
 use Rattle.capi.proofs.numbers.grundavok_leb128_u32.Statement.{statement}
 use Rattle.capi.proofs.numbers.grundavok_leb128_u32.Tie as tie

@@ -2,7 +2,7 @@
 use mathlib.Core.Path.{ap, _∙_}
 use mir.Syntax.{w64}
 use mir.ValLaws.{toZ-ofZ}
-use Rattle.capi.specs.Answers.{counted}
+use Rattle.capi.specs.Cases.{counted}
 use borrow.Author.Needs.{needs}
 use Rattle.capi.proofs.numbers.grundavok_put_i64.Statement.{statement}
 use Rattle.capi.proofs.numbers.grundavok_put_i64.Tie as tie

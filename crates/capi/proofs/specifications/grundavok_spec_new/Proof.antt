@@ -2,7 +2,7 @@
 use mathlib.Core.Path.{ap, _∙_}
 use Prim.Native.Nat.{ℕ}
 use Rattle.column_specification.specs.Specification.{pack}
-use Rattle.capi.specs.Answers.{specification}
+use Rattle.capi.specs.Cases.{specification}
 use borrow.Author.Needs.{needs}
 use Rattle.capi.proofs.specifications.grundavok_spec_new.Statement.{statement}
 use Rattle.capi.proofs.specifications.grundavok_spec_new.Tie as tie

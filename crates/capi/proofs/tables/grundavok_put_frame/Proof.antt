@@ -1,6 +1,6 @@
 -- `capi::tables::grundavok_put_frame` meets its contract. Assumes nothing.
 use mathlib.Core.Path.{ap, _∙_}
-use Rattle.capi.specs.Answers.{frameAs}
+use Rattle.capi.specs.Cases.{frameAs}
 use borrow.Author.Needs.{needs}
 use Rattle.capi.proofs.tables.grundavok_put_frame.Statement.{statement}
 use Rattle.capi.proofs.tables.grundavok_put_frame.Tie as tie

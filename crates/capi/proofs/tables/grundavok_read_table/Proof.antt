@@ -1,6 +1,6 @@
 -- `capi::tables::grundavok_read_table` meets its contract. Assumes nothing.
 use mathlib.Core.Path.{ap, _∙_}
-use Rattle.capi.specs.Answers.{openedAs}
+use Rattle.capi.specs.Cases.{openedAs}
 use borrow.Author.Needs.{needs}
 use Rattle.capi.proofs.tables.grundavok_read_table.Statement.{statement}
 use Rattle.capi.proofs.tables.grundavok_read_table.Tie as tie
