@@ -43,7 +43,8 @@ column-is-part s position = go (parse s) refl
         at : take (getD lens position 0) (drop (startOf lens next position) s) ≡ getD (cut lens (drop next s)) position []
         at = sym (cut-at lens (drop next s) position ∙ ap (take (getD lens position 0)) (drop-drop (sum (take position lens)) next s))
 
-        row : (b : Bool) → ltb position (length specs) ≡ b → bytesOf s (cond b (rowPart specs lens next position) (noPart 16 0)) ≡ getD (cut lens (drop next s)) position []
+        row : (b : Bool) → ltb position (length specs) ≡ b
+            → bytesOf s (cond b (rowPart specs lens next position) (noPart 16 0)) ≡ getD (cut lens (drop next s)) position []
         row true h = at
         row false h =
             let n : length (cut lens (drop next s)) ≤ position =
@@ -217,12 +218,14 @@ module _ (s specs lens : List ℕ) (next : ℕ) (e : parse s ≡ tab specs lens 
       let a : k ≡ startOf lens next position - next = omega arith in
       let b : next + (k + getD lens position 0) ≡ startOf lens next position + getD lens position 0 = omega arith in
       let j = set-joined lens (drop next s) position column d (omega (arith, f .even)) in
-      ap (λ (l : List ℕ). tableBytes specs l ++ joined (set (cut lens (drop next s)) position column)) (set-column-lens s specs lens next e position column)
+      ap (λ (l : List ℕ). tableBytes specs l ++ joined (set (cut lens (drop next s)) position column))
+      (set-column-lens s specs lens next e position column)
       ∙ ap (λ (l : List ℕ). tableBytes specs (set lens position (length column)) ++ l)
       (j ∙ ap (λ (n : ℕ). take n (drop next s) ++ (column ++ drop (k + getD lens position 0) (drop next s))) a
       ∙ ap (λ (l : List ℕ). take (startOf lens next position - next) (drop next s) ++ (column ++ l))
       (drop-drop (k + getD lens position 0) next s ∙ ap (λ (n : ℕ). drop n s) b))
-      ∙ sym (append-assoc (tableBytes specs (set lens position (length column))) (take (startOf lens next position - next) (drop next s)) (column ++ tailOf s lens next position))
+      ∙ sym (append-assoc (tableBytes specs (set lens position (length column))) (take (startOf lens next position - next) (drop next s))
+      (column ++ tailOf s lens next position))
 
   new-length : length (newBlock s specs lens next position column)
       ≡ length (frontOf s specs lens next position (length column)) + (length column + length (tailOf s lens next position))
@@ -239,9 +242,11 @@ module _ (s specs lens : List ℕ) (next : ℕ) (e : parse s ≡ tab specs lens 
   pub frame-refused : (out : ℕ) → out < length (newBlock s specs lens next position column) → framed s position (length column) out ≡ shut 10 0
   frame-refused out r = framed-10 s position (length column) out specs lens next e h (omega (arith, new-length))
 
-module _ (s specs lens : List ℕ) (next position size out : ℕ) (head tail : List ℕ) (e : parse s ≡ tab specs lens next) (f : framed s position size out ≡ room head tail)
+module _ (s specs lens : List ℕ) (next position size out : ℕ) (head tail : List ℕ) (e : parse s ≡ tab specs lens next)
+    (f : framed s position size out ≡ room head tail)
     (column : List ℕ) (l : length column ≡ size) where
-  frame-parts : (position < length specs) × (frontOf s specs lens next position size ≡ head) × (tailOf s lens next position ≡ tail) × (length head + (size + length tail) ≤ out)
+  frame-parts : (position < length specs) × (frontOf s specs lens next position size ≡ head) × (tailOf s lens next position ≡ tail) ×
+      (length head + (size + length tail) ≤ out)
   unfolding framed
   frame-parts = framed-is s specs lens next position size out head tail (ap (framedIn s position size out) (sym e) ∙ f)
 
@@ -255,8 +260,11 @@ module _ (s specs lens : List ℕ) (next position size out : ℕ) (head tail : L
       (new-block s specs lens next e position (p .0) column
       ∙ ap (λ (n : ℕ). frontOf s specs lens next position n ++ (column ++ tailOf s lens next position)) l
       ∙ ap (λ (x : List ℕ). x ++ (column ++ tailOf s lens next position)) (p .1)
-      ∙ ap (λ (x : List ℕ). head ++ (column ++ x)) (p .2)) in
-      (b, sym (ap length b) ∙ length-append head (column ++ tail) ∙ ap (λ (n : ℕ). length head + n) (length-append column tail ∙ ap (λ (n : ℕ). n + length tail) l))
+      ∙ ap (λ (x : List ℕ). head ++ (column ++ x)) (p .2)) in (
+        b,
+        sym (ap length b) ∙ length-append head (column ++ tail) ∙ ap (λ (n : ℕ). length head + n)
+            (length-append column tail ∙ ap (λ (n : ℕ). n + length tail) l),
+      )
 
   -- the same in an output that has the frame: the new block at its front, the rest as it was
   pub frame-filled : (old : List ℕ) → length old ≡ out
@@ -270,7 +278,8 @@ module _ (s specs lens : List ℕ) (next position size out : ℕ) (head tail : L
       let m : length M ≡ size = length-take-le size (drop (length head) old) (omega (arith, length-drop (length head) old, p .3)) in
       let d : drop size (drop (length head) (head ++ (M ++ (tail ++ D)))) ≡ tail ++ D =
       ap (drop size) (drop-at head (M ++ (tail ++ D)) (length head) refl) ∙ drop-at M (tail ++ D) size m in
-      ap (λ (x : List ℕ). x ++ (column ++ drop size (drop (length head) (head ++ (M ++ (tail ++ D)))))) (take-at head (M ++ (tail ++ D)) (length head) refl)
+      ap (λ (x : List ℕ). x ++ (column ++ drop size (drop (length head) (head ++ (M ++ (tail ++ D))))))
+      (take-at head (M ++ (tail ++ D)) (length head) refl)
       ∙ ap (λ (x : List ℕ). head ++ (column ++ x)) d
       ∙ ap (λ (x : List ℕ). head ++ x) (sym (append-assoc column tail D))
       ∙ sym (append-assoc head (column ++ tail) D)

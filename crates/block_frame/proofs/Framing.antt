@@ -121,7 +121,8 @@ module _ {s : List ℕ} {table : Table} {next position : ℕ} (g : Chosen s tabl
   module _ (size : ℕ) where
     before-is : before s table next position size ≡ frontOf s S L next position size
     before-is =
-        ap (λ (l : List ℕ). tableBytes S l ++ take (startIn table next position - next) (drop next s)) (take-set-lt (table .rows) (table .lens) position size (g .there))
+        ap (λ (l : List ℕ). tableBytes S l ++ take (startIn table next position - next) (drop next s))
+        (take-set-lt (table .rows) (table .lens) position size (g .there))
         ∙ ap (λ (k : ℕ). tableBytes S (set L position size) ++ take (k - next) (drop next s)) start-is
 
     -- the length that the code adds up, of a table of t bytes
@@ -138,7 +139,8 @@ module _ {s : List ℕ} {table : Table} {next position : ℕ} (g : Chosen s tabl
         omega (arith, length-append T (take (A - next) (drop next s)))
 
     module _ (out : ℕ) where
-      pub frame-short : out < length (before s table next position size) + (size + length (behind s table next position)) → framed s position size out ≡ shut 10 0
+      pub frame-short : out < length (before s table next position size) + (size + length (behind s table next position))
+          → framed s position size out ≡ shut 10 0
       frame-short h =
           framed-10 s position size out S L next (g .is) (omega (arith, rows-are, g .there)) (omega (arith, ap length before-is, ap length behind-is))
 

@@ -64,7 +64,8 @@ rows-back (spec ∷ specs) (len ∷ lens) pre rest e a b =
     let R = rowsBytes specs lens ++ rest in
     let p₂ = pre ++ u64Bytes spec in
     let p₃ = p₂ ++ u64Bytes len in
-    let s₁ : pre ++ ((u64Bytes spec ++ (u64Bytes len ++ rowsBytes specs lens)) ++ rest) ≡ pre ++ (u64Bytes spec ++ (u64Bytes len ++ R)) = simp append-assoc in
+    let s₁ : pre ++ ((u64Bytes spec ++ (u64Bytes len ++ rowsBytes specs lens)) ++ rest) ≡ pre ++ (u64Bytes spec ++ (u64Bytes len ++ R)) =
+    simp append-assoc in
     let s₂ : pre ++ (u64Bytes spec ++ (u64Bytes len ++ R)) ≡ p₂ ++ (u64Bytes len ++ R) = simp append-assoc in
     let s₃ : p₂ ++ (u64Bytes len ++ R) ≡ p₃ ++ R = simp append-assoc in
     let n₁ = u32-there pre (u64Bytes len ++ R) spec (a zero) in
@@ -129,7 +130,8 @@ module _ (s specs lens : List ℕ) (next : ℕ) where
             bare = rw a′ at j;
           }
 
-  accepted-count : (g : Got ℕ) → u64At s 0 ≡ g → withNumber g (λ n q. cond (ltb 64 n) (faulty 11 0) (judged (length s) (rowsAt n s q))) ≡ tab specs lens next → Accepted s specs lens next
+  accepted-count : (g : Got ℕ) → u64At s 0 ≡ g
+      → withNumber g (λ n q. cond (ltb 64 n) (faulty 11 0) (judged (length s) (rowsAt n s q))) ≡ tab specs lens next → Accepted s specs lens next
   accepted-count (bad number place) c e = let z : _≡_ {A = ℕ} 0 1 = cc in absurd (omega arith)
   accepted-count (got n q) c e = go (ltb 64 n) e
     where
@@ -251,7 +253,8 @@ stand s bytes (suc n) p =
     (λ number place e. tt)
 
 -- an accepted table of bytes is proper, and the block begins with what would be written for it
-pub table-only : (s specs lens : List ℕ) (next : ℕ) → Below 256 s → parse s ≡ tab specs lens next → Proper specs lens × (take next s ≡ tableBytes specs lens)
+pub table-only : (s specs lens : List ℕ) (next : ℕ) → Below 256 s → parse s ≡ tab specs lens next
+    → Proper specs lens × (take next s ≡ tableBytes specs lens)
 unfolding tableBytes
 table-only s specs lens next bytes e =
     let a = accepted s specs lens next e in

@@ -43,7 +43,8 @@ clean-from j (b ∷ xs) e i = join i b xs (head-low j b xs e) (clean-from (suc j
 
 pub clean-append : (xs ys : List ℕ) → Clean xs → Clean ys → Clean (xs ++ ys)
 clean-append [] ys h k i = k i
-clean-append (b ∷ xs) ys h k i = join i b (xs ++ ys) (head-low i b xs (h i)) (clean-append xs ys (clean-from (suc i) xs (rest-clean i b xs (h i))) k (suc i))
+clean-append (b ∷ xs) ys h k i =
+    join i b (xs ++ ys) (head-low i b xs (h i)) (clean-append xs ys (clean-from (suc i) xs (rest-clean i b xs (h i))) k (suc i))
 
 pub clean-take : (n : ℕ) (xs : List ℕ) → Clean xs → Clean (take n xs)
 unfolding badFlag

@@ -1,3 +1,4 @@
 pub mod Clean
 pub mod Decoding
+pub mod Faults
 pub mod Turning

@@ -107,6 +107,31 @@ pub nothing-reads : boolTrace [] ≡ record { readings = []; ending = sound }
 unfolding boolTrace turnAt walk
 nothing-reads = refl
 
+-- with no value true a list of so many zeros, which its length alone gives back
+zeros-all : (xs : List ℕ) → anyFlag xs ≡ false → xs ≡ replicate (length xs) 0
+unfolding anyFlag
+zeros-all [] e = refl
+zeros-all (b ∷ xs) e = go (eqb b 0) refl e (λ k. zeros-all xs k)
+  where
+    go : (t : Bool) → eqb b 0 ≡ t → cond t (anyFlag xs) true ≡ false → (anyFlag xs ≡ false → xs ≡ replicate (length xs) 0)
+        → b ∷ xs ≡ 0 ∷ replicate (length xs) 0
+    go true h k r = ap (λ (a : ℕ). a ∷ xs) (eqb-true b 0 h) ∙ ap (λ (l : List ℕ). 0 ∷ l) (r k)
+    go false h k r = let z : _≡_ {A = ℕ} 0 1 = cc in absurd (omega arith)
+
+-- THE ALL-FALSE FORM: what it gives reads back soundly as the list, or is no bytes, and the list has no true in it
+pub data MaybeBack (xs : List ℕ) : Type 0 where
+  reads-back : boolTrace (maybeBytes xs) .readings ≡ xs → boolTrace (maybeBytes xs) .ending ≡ sound → MaybeBack xs
+  no-bytes : maybeBytes xs ≡ [] → xs ≡ replicate (length xs) 0 → MaybeBack xs
+
+pub maybe-back : (xs : List ℕ) → Flags xs → length xs ≤ limit → MaybeBack xs
+maybe-back xs h m = go (anyFlag xs) refl
+  where
+    go : (t : Bool) → anyFlag xs ≡ t → MaybeBack xs
+    go true e =
+        let r = rw (← some-true xs e) at (round-trip xs h m) in
+        reads-back (r .0) (r .1)
+    go false e = no-bytes (all-false xs e) (zeros-all xs e)
+
 -- ---- at most n + 1 bytes
 
 -- no count but the first is 0
@@ -127,7 +152,8 @@ counts-later : (flag : ℕ) (xs : List ℕ) → Later (counts flag xs)
 unfolding counts
 counts-later flag [] = tt
 counts-later flag (b ∷ xs) =
-    cond-by Later (eqb b flag) (λ e. later-add (counts flag xs) (counts-later flag xs) .1) (λ e. later-add (counts (1 - flag) xs) (counts-later (1 - flag) xs) .0)
+    cond-by Later (eqb b flag) (λ e. later-add (counts flag xs) (counts-later flag xs) .1)
+    (λ e. later-add (counts (1 - flag) xs) (counts-later (1 - flag) xs) .0)
 
 -- the counts add up to the list's length
 abbrev sum : List ℕ → ℕ

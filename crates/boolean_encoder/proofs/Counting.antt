@@ -52,7 +52,8 @@ module _ (flag : ℕ) where
     pub alike-more : k < length xs → getD xs k 0 ≡ flag → k + alike flag (drop k xs) ≡ k + 1 + alike flag (drop (k + 1) xs)
     unfolding alike
     alike-more l h =
-        let e : alike flag (drop k xs) ≡ suc (alike flag (drop (k + 1) xs)) = ap (alike flag) (drop-cons xs k 0 l) ∙ simp (eq-eqb (getD xs k 0) flag h, add-one) in
+        let e : alike flag (drop k xs) ≡ suc (alike flag (drop (k + 1) xs)) =
+        ap (alike flag) (drop-cons xs k 0 l) ∙ simp (eq-eqb (getD xs k 0) flag h, add-one) in
         omega arith
 
     pub alike-stop : k < length xs → (getD xs k 0 ≡ flag → ⊥) → k + alike flag (drop k xs) ≡ k

@@ -49,7 +49,9 @@ spec-in s spec p e = subst (Within (length s)) (sym e) (spec-within s spec)
 
 -- ---- row_part, of a table that was read
 module _ {s : List ℕ} {o : Opened} (g : Open s o) {i : ℕ} (h : i < o .table .rows) where
-  pub row-ready : length s < 2 ^ 64 → (i < o .table .rows) × (o .table .rows ≤ 64) × (startOf (lensOf o) (o .start) i < 2 ^ 64) × (getD (o .table .starts) i 0 ≡ sum (take i (lensOf o)))
+  pub row-ready : length s < 2 ^ 64
+      → (i < o .table .rows) × (o .table .rows ≤ 64) × (startOf (lensOf o) (o .start) i < 2 ^ 64) ×
+      (getD (o .table .starts) i 0 ≡ sum (take i (lensOf o)))
   row-ready w = (h, g .small, omega (arith, sum-to (lensOf o) i (omega (arith, lens-many g)), g .fills), g .starts-are i h)
 
 -- ---- locate

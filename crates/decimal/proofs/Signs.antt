@@ -16,7 +16,8 @@ unfolding signedOf
 signed-empty [] e = refl
 signed-empty (b ∷ s) e = absurd (omega arith)
 
-pub signed-minus : (s : List ℕ) (d : Decimal) (r : Reading) → 0 < length s → getD s 0 0 ≡ 45 → d ≡ decimalOf (take (length s - 1) (drop 1 s)) → r ≡ loweredOf d → r ≡ signedOf s
+pub signed-minus : (s : List ℕ) (d : Decimal) (r : Reading) → 0 < length s → getD s 0 0 ≡ 45 → d ≡ decimalOf (take (length s - 1) (drop 1 s))
+    → r ≡ loweredOf d → r ≡ signedOf s
 unfolding signedOf
 signed-minus [] d r h e p q = absurd (omega arith)
 signed-minus (b ∷ s) d r h e p q = rw (eq-eqb b 45 e) (q ∙ ap loweredOf (p ∙ ap decimalOf (take-all (length (b ∷ s) - 1) s (omega arith))))
@@ -31,7 +32,8 @@ unfolding unsignedOf
 unsigned-empty [] e = refl
 unsigned-empty (b ∷ s) e = absurd (omega arith)
 
-pub unsigned-minus : (s : List ℕ) (d : Decimal) (r : Reading) → 0 < length s → getD s 0 0 ≡ 45 → d ≡ decimalOf (take (length s - 1) (drop 1 s)) → r ≡ outsideOf d → r ≡ unsignedOf s
+pub unsigned-minus : (s : List ℕ) (d : Decimal) (r : Reading) → 0 < length s → getD s 0 0 ≡ 45 → d ≡ decimalOf (take (length s - 1) (drop 1 s))
+    → r ≡ outsideOf d → r ≡ unsignedOf s
 unfolding unsignedOf
 unsigned-minus [] d r h e p q = absurd (omega arith)
 unsigned-minus (b ∷ s) d r h e p q = rw (eq-eqb b 45 e) (q ∙ ap outsideOf (p ∙ ap decimalOf (take-all (length (b ∷ s) - 1) s (omega arith))))

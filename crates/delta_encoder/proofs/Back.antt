@@ -1,6 +1,7 @@
 -- THE ROUND TRIP of delta columns: a list whose values and differences an i64 holds reads back soundly as itself; a list with no value
--- present writes nothing, and nothing reads as the empty list. And what was read can be written. Assumes nothing.
-use Prim.Native.Nat.{ℕ, suc, _≤_, _<_}
+-- present writes nothing, and nothing reads as the empty list. Any list takes at most 11 bytes a reading. And what was read can be written.
+-- Assumes nothing.
+use Prim.Native.Nat.{ℕ, suc, _*_, _≤_, _<_}
 use mathlib.Core.Path.{_≡_, refl, _∙_, ap}
 use mathlib.Core.List.{List, [], _∷_, map}
 use mathlib.Core.Option.{Option, none, some}
@@ -14,10 +15,11 @@ use Rattle.encoding.specs.Column.{Reading, absent, present, value, trace}
 use Rattle.encoding.specs.Writer.{anyPresent, columnBytes}
 use Rattle.encoding.proofs.Back.{ListFits, round-trip, no-value, nothing-reads}
 use Rattle.encoding.proofs.Readable.{Fits, trace-fits}
+use Rattle.encoding.proofs.Sizes.{column-eleven}
 use Rattle.delta_decoder.specs.Difference.{i64E, holds}
 use Rattle.delta_encoder.specs.Differences.{differences, deltaBytes, wideAt}
 use Rattle.delta_decoder.specs.Sums.{heldSum, added, addUp, deltaTrace}
-use Rattle.delta_decoder.proofs.DifferenceLaws.{i64-laws}
+use Rattle.delta_decoder.proofs.DifferenceLaws.{i64-laws, i64-ten}
 
 -- an i64 holds each value
 abbrev pub AllHeld : List (Option ℤ) → Type 0
@@ -88,6 +90,11 @@ delta-no-value xs e = no-value i64E (differences (pos 0) xs) (any-same (pos 0) x
 pub delta-nothing : deltaTrace [] ≡ record { readings = []; ending = Ending.sound }
 unfolding deltaTrace addUp
 delta-nothing = rw (nothing-reads i64E)
+
+-- "n optional readings never need more than 11n bytes": whatever their differences, since no encoding of a number passes 10 bytes
+pub delta-eleven : (xs : List (Option ℤ)) → length (deltaBytes xs) ≤ 11 * length xs
+unfolding deltaBytes
+delta-eleven xs = omega (arith, column-eleven i64E i64-laws i64-ten (differences (pos 0) xs), same-length (pos 0) xs)
 
 -- ---- a list that was read has differences that can be written
 

@@ -2,6 +2,7 @@ pub mod Back
 pub mod Columns
 pub mod Cut
 pub mod Elements
+pub mod Faults
 pub mod Filling
 pub mod Lists
 pub mod Looking

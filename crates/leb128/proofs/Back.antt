@@ -56,7 +56,8 @@ SpeltDigits test limit neg p v len (broken r) = ⊥
 
 module _ (test : ℕ → ℕ → Bool) (limit : ℕ) (neg : Bool) (two : 2 ≤ limit) (most : limit ≤ 128)
     (fine : (d w : ℕ) → d < 128 → w < limit → limit ≤ 128 * w + d → test (128 + group neg d) (group neg w) ≡ false) where
-  spelt-more : (p v len : ℕ) (c : Digits) → limit ≤ v → SpeltDigits test limit neg (128 + group neg (v % 128)) (v / 128) len c → SpeltDigits test limit neg p v (suc len) (more (128 + group neg (v % 128) - 128) c)
+  spelt-more : (p v len : ℕ) (c : Digits) → limit ≤ v → SpeltDigits test limit neg (128 + group neg (v % 128)) (v / 128) len c
+      → SpeltDigits test limit neg p v (suc len) (more (128 + group neg (v % 128) - 128) c)
   spelt-more p v len (broken r) h s = s
   spelt-more p v len (whole low scale prev last count) h s =
       record {
@@ -74,7 +75,8 @@ module _ (test : ℕ → ℕ → Bool) (limit : ℕ) (neg : Bool) (two : 2 ≤ l
         one = λ k. absurd (omega (arith, s .some));
       }
 
-  spelt-last : (n p v : ℕ) (rest : List ℕ) → v < limit → SpeltDigits test limit neg p v (length (encoded limit neg v)) (digits n p (encoded limit neg v ++ rest))
+  spelt-last : (n p v : ℕ) (rest : List ℕ) → v < limit
+      → SpeltDigits test limit neg p v (length (encoded limit neg v)) (digits n p (encoded limit neg v ++ rest))
   spelt-last n p v rest h =
       rw (encoded-last limit neg v h, lt-ltb (group neg v) 128 (group-lt neg v (omega arith)))
       record {
@@ -89,14 +91,16 @@ module _ (test : ℕ → ℕ → Bool) (limit : ℕ) (neg : Bool) (two : 2 ≤ l
         one = λ k. (refl, refl, h);
       }
 
-  round : (k n p v : ℕ) (rest : List ℕ) → n + k ≡ 9 → v < 128 ^ k * 2 → v < 2 ^ 64 → SpeltDigits test limit neg p v (length (encoded limit neg v)) (digits n p (encoded limit neg v ++ rest))
+  round : (k n p v : ℕ) (rest : List ℕ) → n + k ≡ 9 → v < 128 ^ k * 2 → v < 2 ^ 64
+      → SpeltDigits test limit neg p v (length (encoded limit neg v)) (digits n p (encoded limit neg v ++ rest))
   round zero n p v rest e h b = spelt-last n p v rest (omega arith)
   round (suc k) n p v rest e h b =
       elim (decLt v limit) [
         | yes q ↦ spelt-last n p v rest q
         | no q ↦
             rw (encoded-more limit neg v two (omega arith) b, le-ltb (128 + group neg (v % 128)) 128 (omega arith), ne-eqb n 9 (omega arith))
-            (spelt-more p v (length (encoded limit neg (v / 128))) (digits (n + 1) (128 + group neg (v % 128)) (encoded limit neg (v / 128) ++ rest)) (omega arith)
+            (spelt-more p v (length (encoded limit neg (v / 128)))
+            (digits (n + 1) (128 + group neg (v % 128)) (encoded limit neg (v / 128) ++ rest)) (omega arith)
             (round k (n + 1) (128 + group neg (v % 128)) (v / 128) rest (omega arith) (omega (arith, pow-suc 128 k)) (omega arith)))
       ]
 
@@ -131,7 +135,9 @@ u-judge at place p v len (whole low scale prev last count) h s = rw (large, long
 
 -- reading back what was written
 pub u-round : (at place v : ℕ) (rest : List ℕ) → v < 2 ^ 64 → unsigned at place (digits 0 0 (u64Bytes v ++ rest)) ≡ got v (at + length (u64Bytes v))
-u-round at place v rest h = u-judge at place 0 v (length (u64Bytes v)) (digits 0 0 (u64Bytes v ++ rest)) h (round u-test 128 false (omega arith) (omega arith) u-fine 9 0 0 v rest refl h h)
+u-round at place v rest h =
+    u-judge at place 0 v (length (u64Bytes v)) (digits 0 0 (u64Bytes v ++ rest)) h
+    (round u-test 128 false (omega arith) (omega arith) u-fine 9 0 0 v rest refl h h)
 
 -- ---- signed
 
@@ -153,32 +159,40 @@ signedBy false v = pos v
 signedBy true v = negsuc v
 
 -- the tenth byte only repeats the sign
-s-tenth : (neg : Bool) (low scale last count v : ℕ) → v < 2 ^ 63 → low < scale → last < 128 → scale ≡ 2 ^ 63 → Val neg (low + scale * last) scale v → last ≡ fill last
+s-tenth : (neg : Bool) (low scale last count v : ℕ) → v < 2 ^ 63 → low < scale → last < 128 → scale ≡ 2 ^ 63 → Val neg (low + scale * last) scale v
+    → last ≡ fill last
 s-tenth false low scale last count v h b f e x =
     let z : last < 1 = elim (decLt last 1) [ yes q ↦ q | no q ↦ absurd (omega (arith, mul-le-mul-left {m = 1} {n = last} scale (omega arith))) ] in
     omega (arith, fill-low last (omega arith))
 s-tenth true low scale last count v h b f e x =
-    let z : 127 ≤ last = elim (decLt last 127) [ yes q ↦ absurd (omega (arith, mul-le-mul-left {m = last} {n = 126} scale (omega arith))) | no q ↦ omega arith ] in
+    let z : 127 ≤ last =
+    elim (decLt last 127) [ yes q ↦ absurd (omega (arith, mul-le-mul-left {m = last} {n = 126} scale (omega arith))) | no q ↦ omega arith ] in
     omega (arith, fill-high last (omega arith))
 
-s-value : (neg : Bool) (low scale last v : ℕ) → last < 128 → group neg last < 64 → Val neg (low + scale * last) scale v → signedOf low scale last ≡ signedBy neg v
+s-value : (neg : Bool) (low scale last v : ℕ) → last < 128 → group neg last < 64 → Val neg (low + scale * last) scale v
+    → signedOf low scale last ≡ signedBy neg v
 s-value false low scale last v f h x = rw (lt-ltb last 64 h, x)
 s-value true low scale last v f h x = rw (le-ltb last 64 (omega arith)) (ap negsuc (omega arith))
 
-s-judge : (neg : Bool) (at place p v len : ℕ) (c : Digits) → v < 2 ^ 63 → SpeltDigits s-test 64 neg p v len c → signed at place c ≡ got (signedBy neg v) (at + len)
+s-judge : (neg : Bool) (at place p v len : ℕ) (c : Digits) → v < 2 ^ 63 → SpeltDigits s-test 64 neg p v len c
+    → signed at place c ≡ got (signedBy neg v) (at + len)
 s-judge neg at place p v len (broken r) h s = absurd s
 s-judge neg at place p v len (whole low scale prev last count) h s = rw (large, long, s-value neg low scale last v (s .final) (s .sign) (s .val), s .size)
   where
     large : sLarge last count ≡ false
     large = and-no (eqb count 10) (not (eqb last (fill last)))
-        (λ e. ap not (eq-eqb last (fill last) (s-tenth neg low scale last count v h (s .below) (s .final) (tenth scale count (s .power) (eqb-true count 10 e)) (s .val))))
+        (λ e. ap not (eq-eqb last (fill last) (s-tenth neg low scale last count v h (s .below) (s .final)
+        (tenth scale count (s .power) (eqb-true count 10 e)) (s .val))))
 
     long : sLong prev last count ≡ false
     long = and-no (ltb 1 count) (eqb last (fill prev)) (λ e. s .long (ltb-true 1 count e))
 
 -- reading back what was written
-pub s-round : (at place : ℕ) (x : ℤ) (rest : List ℕ) → mag x < 2 ^ 63 → signed at place (digits 0 0 (i64Bytes x ++ rest)) ≡ got x (at + length (i64Bytes x))
+pub s-round : (at place : ℕ) (x : ℤ) (rest : List ℕ) → mag x < 2 ^ 63
+    → signed at place (digits 0 0 (i64Bytes x ++ rest)) ≡ got x (at + length (i64Bytes x))
 s-round at place (pos n) rest h =
-    s-judge false at place 0 n (length (i64Bytes (pos n))) (digits 0 0 (i64Bytes (pos n) ++ rest)) h (round s-test 64 false (omega arith) (omega arith) (s-fine false) 9 0 0 n rest refl (omega arith) (omega arith))
+    s-judge false at place 0 n (length (i64Bytes (pos n))) (digits 0 0 (i64Bytes (pos n) ++ rest)) h
+    (round s-test 64 false (omega arith) (omega arith) (s-fine false) 9 0 0 n rest refl (omega arith) (omega arith))
 s-round at place (negsuc n) rest h =
-    s-judge true at place 0 n (length (i64Bytes (negsuc n))) (digits 0 0 (i64Bytes (negsuc n) ++ rest)) h (round s-test 64 true (omega arith) (omega arith) (s-fine true) 9 0 0 n rest refl (omega arith) (omega arith))
+    s-judge true at place 0 n (length (i64Bytes (negsuc n))) (digits 0 0 (i64Bytes (negsuc n) ++ rest)) h
+    (round s-test 64 true (omega arith) (omega arith) (s-fine true) 9 0 0 n rest refl (omega arith) (omega arith))

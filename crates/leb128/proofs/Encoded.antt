@@ -26,14 +26,16 @@ group-lt false d h = h
 fuel : (f limit : ℕ) (neg : Bool) (v : ℕ) → 2 ≤ limit → v < 128 ^ f * 2 → encodedFrom (suc f) limit neg v ≡ encodedFrom (suc (suc f)) limit neg v
 fuel zero limit neg v l h = let k : v < limit = omega arith in rw (lt-ltb v limit k)
 fuel (suc f) limit neg v l h =
-    let ih : v / 128 < 128 ^ f * 2 → encodedFrom (suc f) limit neg (v / 128) ≡ encodedFrom (suc (suc f)) limit neg (v / 128) = fuel f limit neg (v / 128) l in
+    let ih : v / 128 < 128 ^ f * 2 → encodedFrom (suc f) limit neg (v / 128) ≡ encodedFrom (suc (suc f)) limit neg (v / 128) =
+    fuel f limit neg (v / 128) l in
     ap (λ (r : List ℕ). cond (ltb v limit) (group neg v ∷ []) ((128 + group neg (v % 128)) ∷ r)) (ih (omega (arith, pow-suc 128 f)))
 
 pub encoded-last : (limit : ℕ) (neg : Bool) (v : ℕ) → v < limit → encoded limit neg v ≡ group neg v ∷ []
 unfolding encoded
 encoded-last limit neg v h = rw (lt-ltb v limit h)
 
-pub encoded-more : (limit : ℕ) (neg : Bool) (v : ℕ) → 2 ≤ limit → limit ≤ v → v < 2 ^ 64 → encoded limit neg v ≡ (128 + group neg (v % 128)) ∷ encoded limit neg (v / 128)
+pub encoded-more : (limit : ℕ) (neg : Bool) (v : ℕ) → 2 ≤ limit → limit ≤ v → v < 2 ^ 64
+    → encoded limit neg v ≡ (128 + group neg (v % 128)) ∷ encoded limit neg (v / 128)
 unfolding encoded
 encoded-more limit neg v l h k = rw (le-ltb v limit h) (ap (λ (r : List ℕ). (128 + group neg (v % 128)) ∷ r) (fuel 8 limit neg (v / 128) l (omega arith)))
 
@@ -74,9 +76,14 @@ pub put-no : (out : List ℕ) (at : ℕ) (bs : List ℕ) → length out < at + l
 unfolding putAt putOut
 put-no out at bs h = (rw (lt-leb (at + length bs) (length out) h), rw (lt-leb (at + length bs) (length out) h))
 
-pub put-yes : (out : List ℕ) (at : ℕ) (bs : List ℕ) (n : ℕ) → n ≡ length bs → at + length bs ≤ length out → (done (at + n) ≡ putAt out at bs) × (sets out at bs ≡ putOut out at bs)
+pub put-yes : (out : List ℕ) (at : ℕ) (bs : List ℕ) (n : ℕ) → n ≡ length bs → at + length bs ≤ length out
+    → (done (at + n) ≡ putAt out at bs) × (sets out at bs ≡ putOut out at bs)
 unfolding putAt putOut
-put-yes out at bs n e h = (rw (le-leb (at + length bs) (length out) h, e), rw (le-leb (at + length bs) (length out) h) (sets-eq bs out at h ∙ append-assoc (take at out) bs (drop (at + length bs) out)))
+put-yes out at bs n e h = (
+  rw (le-leb (at + length bs) (length out) h, e),
+  rw (le-leb (at + length bs) (length out) h)
+      (sets-eq bs out at h ∙ append-assoc (take at out) bs (drop (at + length bs) out)),
+)
 
 -- a signed number's encoding, by its sign and its magnitude
 pub s-len : (x : ℤ) {n : ℕ} → ((neg : Bool) → n ≡ length (encoded 64 neg (mag x))) → n ≡ length (i64Bytes x)

@@ -42,12 +42,14 @@ counted : (n p : ℕ) (bs : List ℕ) → Counted (length bs) (digits n p bs)
 counted n p [] = tt
 counted n p (b ∷ bs) = go (ltb b 128) (eqb n 9) (counted (n + 1) b bs)
   where
-    go : (t u : Bool) → Counted (length bs) (digits (n + 1) b bs) → Counted (suc (length bs)) (cond t (whole 0 1 p b 1) (cond u (broken 2) (more (b - 128) (digits (n + 1) b bs))))
+    go : (t u : Bool) → Counted (length bs) (digits (n + 1) b bs)
+        → Counted (suc (length bs)) (cond t (whole 0 1 p b 1) (cond u (broken 2) (more (b - 128) (digits (n + 1) b bs))))
     go true u ih = omega arith
     go false true ih = tt
     go false false ih = counted-more (length bs) (b - 128) (digits (n + 1) b bs) ih
 
-u-after : (s : List ℕ) (at place v next : ℕ) (c : Digits) → Counted (length (drop at s)) c → unsigned at place c ≡ got v next → (at < next) × (next ≤ length s)
+u-after : (s : List ℕ) (at place v next : ℕ) (c : Digits) → Counted (length (drop at s)) c → unsigned at place c ≡ got v next
+    → (at < next) × (next ≤ length s)
 u-after s at place v next (broken r) k e = let z : _≡_ {A = ℕ} 0 1 = cc in absurd (omega arith)
 u-after s at place v next (whole low scale prev last count) k e = go (uLarge last count) (uLong last count) e
   where
@@ -60,11 +62,13 @@ pub u64-next : (s : List ℕ) (at v next : ℕ) → u64At s at ≡ got v next �
 unfolding u64At
 u64-next s at v next e = u-after s at (min at (length s)) v next (digits 0 0 (drop at s)) (counted 0 0 (drop at s)) e
 
-s-after : (s : List ℕ) (at place next : ℕ) (x : ℤ) (c : Digits) → Counted (length (drop at s)) c → signed at place c ≡ got x next → (at < next) × (next ≤ length s)
+s-after : (s : List ℕ) (at place next : ℕ) (x : ℤ) (c : Digits) → Counted (length (drop at s)) c → signed at place c ≡ got x next
+    → (at < next) × (next ≤ length s)
 s-after s at place next x (broken r) k e = let z : _≡_ {A = ℕ} 0 1 = cc in absurd (omega arith)
 s-after s at place next x (whole low scale prev last count) k e = go (sLarge last count) (sLong prev last count) e
   where
-    go : (a b : Bool) → cond a (bad 2 place) (cond b (bad 3 place) (got (signedOf low scale last) (at + count))) ≡ got x next → (at < next) × (next ≤ length s)
+    go : (a b : Bool) → cond a (bad 2 place) (cond b (bad 3 place) (got (signedOf low scale last) (at + count))) ≡ got x next
+        → (at < next) × (next ≤ length s)
     go true b e = let z : _≡_ {A = ℕ} 0 1 = cc in absurd (omega arith)
     go false true e = let z : _≡_ {A = ℕ} 0 1 = cc in absurd (omega arith)
     go false false e = let q : at + count ≡ next = cc in omega (arith, length-drop at s)
@@ -89,7 +93,8 @@ pub i64-short : (x : ℤ) → (0 < length (i64Bytes x)) × (length (i64Bytes x) 
 i64-short (pos n) = (encoded-some 64 false n, encoded-short 64 false n)
 i64-short (negsuc n) = (encoded-some 64 true n, encoded-short 64 true n)
 
-pub put-room : (out : List ℕ) (at : ℕ) (bs : List ℕ) → at + length bs ≤ length out → (putAt out at bs ≡ done (at + length bs)) × (putOut out at bs ≡ sets out at bs)
+pub put-room : (out : List ℕ) (at : ℕ) (bs : List ℕ) → at + length bs ≤ length out
+    → (putAt out at bs ≡ done (at + length bs)) × (putOut out at bs ≡ sets out at bs)
 put-room out at bs h = let y = put-yes out at bs (length bs) refl h in (sym (y .0), sym (y .1))
 
 -- a small signed number takes one byte

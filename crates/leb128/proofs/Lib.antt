@@ -1,5 +1,6 @@
 pub mod Back
 pub mod Encoded
+pub mod Faults
 pub mod Laws
 pub mod Only
 pub mod Scanning

@@ -44,9 +44,11 @@ val-one true b v h e = omega arith
 
 module _ (test : ℕ → ℕ → Bool) (limit : ℕ) (neg : Bool) (two : 2 ≤ limit) (most : limit ≤ 128)
     (back : (b w : ℕ) → 128 ≤ b → b < 256 → w < 128 → group neg w < limit → test b w ≡ false → limit ≤ 128 * group neg w + group neg (b - 128)) where
-  canon-more : (p b : ℕ) (bs : List ℕ) (c : Digits) → 128 ≤ b → b < 256 → CanonDigits test limit neg b bs c → CanonDigits test limit neg p (b ∷ bs) (more (b - 128) c)
+  canon-more : (p b : ℕ) (bs : List ℕ) (c : Digits) → 128 ≤ b → b < 256 → CanonDigits test limit neg b bs c
+      → CanonDigits test limit neg p (b ∷ bs) (more (b - 128) c)
   canon-more p b bs (broken r) h k s = tt
-  canon-more p b bs (whole low scale prev last count) h k s = (omega arith, λ v vb f g t x. all v vb f g t (val-rest neg (b - 128) low scale last v (omega arith) x))
+  canon-more p b bs (whole low scale prev last count) h k s =
+      (omega arith, λ v vb f g t x. all v vb f g t (val-rest neg (b - 128) low scale last v (omega arith) x))
     where
       all : (v : ℕ) → v < 2 ^ 64 → last < 128 → group neg last < limit → (1 < count + 1 → test prev last ≡ false)
           → Val neg (low + scale * last) scale (v / 128) × (v % 128 ≡ group neg (b - 128)) → Canon test limit neg p (b ∷ bs) v prev last (count + 1)
@@ -69,7 +71,8 @@ module _ (test : ℕ → ℕ → Bool) (limit : ℕ) (neg : Bool) (two : 2 ≤ l
   canon n p [] B = tt
   canon n p (b ∷ bs) B = first (ltb b 128) refl (canon (n + 1) b bs (λ i. B (suc i)))
     where
-      rest : (t : Bool) → 128 ≤ b → CanonDigits test limit neg b bs (digits (n + 1) b bs) → CanonDigits test limit neg p (b ∷ bs) (cond t (broken 2) (more (b - 128) (digits (n + 1) b bs)))
+      rest : (t : Bool) → 128 ≤ b → CanonDigits test limit neg b bs (digits (n + 1) b bs)
+          → CanonDigits test limit neg p (b ∷ bs) (cond t (broken 2) (more (b - 128) (digits (n + 1) b bs)))
       rest true h ih = tt
       rest false h ih = canon-more p b bs (digits (n + 1) b bs) h (B 0) ih
 
@@ -100,12 +103,14 @@ s-back true b w h k f g t = elim (decLt (b - 128) 64) [
   | no q ↦ let z : fill b ≡ 127 = fill-high b (omega arith) in omega (arith, eqb-false w 127 (rw z at t))
 ]
 
-u-accepted : (at place v m : ℕ) (bs : List ℕ) (c : Digits) → SoundDigits 0 (length bs) c → CanonDigits u-test 128 false 0 bs c → unsigned at place c ≡ got v m
+u-accepted : (at place v m : ℕ) (bs : List ℕ) (c : Digits) → SoundDigits 0 (length bs) c → CanonDigits u-test 128 false 0 bs c
+    → unsigned at place c ≡ got v m
     → (take (m - at) bs ≡ u64Bytes v) × (v < 2 ^ 64)
 u-accepted at place v m bs (broken r) s k e = let z : _≡_ {A = ℕ} 0 1 = cc in absurd (omega arith)
 u-accepted at place v m bs (whole low scale prev last count) s k e = go (uLarge last count) (uLong last count) refl refl e
   where
-    go : (a b : Bool) → uLarge last count ≡ a → uLong last count ≡ b → cond a (bad 2 place) (cond b (bad 3 place) (got (low + scale * last) (at + count))) ≡ got v m
+    go : (a b : Bool) → uLarge last count ≡ a → uLong last count ≡ b
+        → cond a (bad 2 place) (cond b (bad 3 place) (got (low + scale * last) (at + count))) ≡ got v m
         → (take (m - at) bs ≡ u64Bytes v) × (v < 2 ^ 64)
     go true b x y e = let z : _≡_ {A = ℕ} 0 1 = cc in absurd (omega arith)
     go false true x y e = let z : _≡_ {A = ℕ} 0 1 = cc in absurd (omega arith)
@@ -119,15 +124,18 @@ u-accepted at place v m bs (whole low scale prev last count) s k e = go (uLarge 
 -- every accepted encoding is the one that is written
 pub u-only : (bs : List ℕ) → ((i : ℕ) → getD bs i 0 < 256) → (at place v m : ℕ) → unsigned at place (digits 0 0 bs) ≡ got v m
     → (take (m - at) bs ≡ u64Bytes v) × (v < 2 ^ 64)
-u-only bs B at place v m e = u-accepted at place v m bs (digits 0 0 bs) (sound 0 0 bs (omega arith) B) (canon u-test 128 false (omega arith) (omega arith) u-back 0 0 bs B) e
+u-only bs B at place v m e =
+    u-accepted at place v m bs (digits 0 0 bs) (sound 0 0 bs (omega arith) B) (canon u-test 128 false (omega arith) (omega arith) u-back 0 0 bs B) e
 
-s-accepted : (at place m : ℕ) (x : ℤ) (bs : List ℕ) (c : Digits) → SoundDigits 0 (length bs) c → ((neg : Bool) → CanonDigits s-test 64 neg 0 bs c) → signed at place c ≡ got x m
+s-accepted : (at place m : ℕ) (x : ℤ) (bs : List ℕ) (c : Digits) → SoundDigits 0 (length bs) c → ((neg : Bool) → CanonDigits s-test 64 neg 0 bs c)
+    → signed at place c ≡ got x m
     → (take (m - at) bs ≡ i64Bytes x) × (mag x < 2 ^ 63)
 s-accepted at place m x bs (broken r) s k e = let z : _≡_ {A = ℕ} 0 1 = cc in absurd (omega arith)
 s-accepted at place m x bs (whole low scale prev last count) s k e = go (sLarge last count) (sLong prev last count) (ltb last 64) refl refl refl e
   where
     go : (a b d : Bool) → sLarge last count ≡ a → sLong prev last count ≡ b → ltb last 64 ≡ d
-        → cond a (bad 2 place) (cond b (bad 3 place) (got (cond d (pos (low + scale * last)) (negsuc (scale * 128 - suc (low + scale * last)))) (at + count))) ≡ got x m
+        → cond a (bad 2 place) (cond b (bad 3 place) (got (cond d (pos (low + scale * last)) (negsuc (scale * 128 - suc (low + scale * last))))
+        (at + count))) ≡ got x m
         → (take (m - at) bs ≡ i64Bytes x) × (mag x < 2 ^ 63)
     go true b d l y h e = let z : _≡_ {A = ℕ} 0 1 = cc in absurd (omega arith)
     go false true d l y h e = let z : _≡_ {A = ℕ} 0 1 = cc in absurd (omega arith)
@@ -144,10 +152,17 @@ s-accepted at place m x bs (whole low scale prev last count) s k e = go (sLarge 
         let q : at + count ≡ m = cc in
         let q′ : m - at ≡ count = omega arith in
         let ge : 64 ≤ last = ltb-false last 64 h in
-        let fit : scale * 128 - suc (low + scale * last) < 2 ^ 63 = rw (s-flip low scale last count (s .0) l) at (s-high low scale last count (s .0) l ge) in
+        let fit : scale * 128 - suc (low + scale * last) < 2 ^ 63 =
+        rw (s-flip low scale last count (s .0) l) at (s-high low scale last count (s .0) l ge) in
         let top : scale * last ≤ scale * 127 = mul-le-mul-left {m = last} {n = 127} scale (omega (arith, s .0 .final)) in
-        rw (q′, p) (k true .1 (scale * 128 - suc (low + scale * last)) (omega arith) (s .0 .final) (omega (arith, s .0 .final)) (λ h. rw (lt-ltb 1 count h) at y) (omega (arith, s .0 .below)) .same, fit)
+        rw (q′, p) (
+          k true .1 (scale * 128 - suc (low + scale * last)) (omega arith) (s .0 .final) (omega (arith, s .0 .final))
+              (λ h. rw (lt-ltb 1 count h) at y) (omega (arith, s .0 .below)) .same,
+          fit,
+        )
 
 pub s-only : (bs : List ℕ) → ((i : ℕ) → getD bs i 0 < 256) → (at place m : ℕ) (x : ℤ) → signed at place (digits 0 0 bs) ≡ got x m
     → (take (m - at) bs ≡ i64Bytes x) × (mag x < 2 ^ 63)
-s-only bs B at place m x e = s-accepted at place m x bs (digits 0 0 bs) (sound 0 0 bs (omega arith) B) (λ neg. canon s-test 64 neg (omega arith) (omega arith) (s-back neg) 0 0 bs B) e
+s-only bs B at place m x e =
+    s-accepted at place m x bs (digits 0 0 bs) (sound 0 0 bs (omega arith) B)
+    (λ neg. canon s-test 64 neg (omega arith) (omega arith) (s-back neg) 0 0 bs B) e

@@ -41,7 +41,9 @@ module _ (s : List ℕ) (x : Digits) (low scale n p i : ℕ) (inv : x ≡ onto l
 
   pub next : {d : ℕ} → i < length s → 128 ≤ getD s i 0 → (n ≡ 9 → ⊥) → d ≡ getD s i 0 - 128
       → x ≡ onto (low + scale * d) (scale * 128) (n + 1) (digits (n + 1) (getD s i 0) (drop (i + 1) s))
-  next h b e f = inv ∙ rw (add-one i, f, drop-cons s i 0 h, le-ltb _ _ b, ne-eqb _ _ e) (onto-more low scale n (getD s i 0 - 128) (digits (n + 1) (getD s i 0) (drop (suc i) s)))
+  next h b e f =
+      inv ∙ rw (add-one i, f, drop-cons s i 0 h, le-ltb _ _ b, ne-eqb _ _ e)
+      (onto-more low scale n (getD s i 0 - 128) (digits (n + 1) (getD s i 0) (drop (suc i) s)))
 
   pub ended : length s ≤ i → broken 1 ≡ x
   ended h = sym (inv ∙ rw (drop-of-length-le s h))

@@ -76,7 +76,8 @@ u-fits low scale last count s l = elim (decLt count 10) [
     ten e = rw e at (s .power)
 
 -- where the digits at a position of s are whole
-module _ (s : List ℕ) (at : ℕ) (B : (i : ℕ) → getD s i 0 < 256) (low scale prev last count : ℕ) (e : whole low scale prev last count ≡ digits 0 0 (drop at s)) where
+module _ (s : List ℕ) (at : ℕ) (B : (i : ℕ) → getD s i 0 < 256) (low scale prev last count : ℕ)
+    (e : whole low scale prev last count ≡ digits 0 0 (drop at s)) where
   pub whole-sound : Sound low scale last count × (at + count ≤ length s)
   whole-sound = subst (SoundAt s at) (sym e) (sound-at s at B)
 
@@ -110,7 +111,8 @@ module _ (low scale last count : ℕ) (s : Sound low scale last count) (l : sLar
   pub s-high : 64 ≤ last → scale - 1 - low + scale * (127 - last) < 2 ^ 63
   s-high h = ⊎-elim
       (λ (k : scale ≤ 2 ^ 56). omega (arith, s .below, mul-le-mul-left {m = 127 - last} {n = 63} scale (omega arith)))
-      (λ (k : (scale ≡ 2 ^ 63) × (last ≡ fill last)). let z : last ≡ 127 = k .1 ∙ fill-high last (omega (arith, s .final)) in rw z (omega (arith, s .below)))
+      (λ (k : (scale ≡ 2 ^ 63) × (last ≡ fill last)). let z : last ≡ 127 = k .1 ∙ fill-high last (omega (arith, s .final)) in rw z
+      (omega (arith, s .below)))
       scales
 
   pub s-flip : scale - 1 - low + scale * (127 - last) ≡ scale * 128 - suc (low + scale * last)

@@ -7,7 +7,8 @@ use mathlib.Core.Bool.{Bool, true, false, cond}
 use Prim.Native.Nat.{ℕ, zero, suc, _+_, _-_, _*_, _/_, _%_, _^_, _≤_, _<_, min, max}
 use native.Mathlib.Decide.{decLt}
 use native.Mathlib.Omega.{arith}
-use native.Mathlib.Nat.{le-div-iff-mul-le, div-lt-iff-lt-mul, div-mul-le-self, lt-div-mul-add, div-add-mod', mod-lt, mod-mod, mul-add-mod-self-right, mul-comm, suc-mul}
+use native.Mathlib.Nat.{le-div-iff-mul-le, div-lt-iff-lt-mul, div-mul-le-self, lt-div-mul-add, div-add-mod', mod-lt, mod-mod}
+use native.Mathlib.Nat.{mul-add-mod-self-right, mul-comm, suc-mul}
 use lib.Dec.{eqb}
 use lib.ListN.{length, getD, take}
 use lib.Seq.{slice, length-slice, getD-take, getD-drop}
@@ -17,7 +18,8 @@ use Rattle.picture.specs.declared.Stretch.{Stretch}
 use Rattle.picture.specs.Scale.{stepsFrom, firstFrom, stepOf, pastMark, baseOf, partsOf, perPlace, rowOf, depthOf, scaleOf}
 use Rattle.picture.specs.Shade.{shadeAt}
 use Rattle.picture.specs.Stretch.{presentOf, leastOf, greatestOf, shown, stretchOf, stretchAt}
-use Rattle.picture.proofs.Marks.{parts-none, parts-some, per-wide, per-some, row-flat, row-below, rows-few, depth-fits, past-within, past-around, base-mark}
+use Rattle.picture.proofs.Marks.{parts-none, parts-some, per-wide, per-some, row-flat, row-below, rows-few, depth-fits, past-within}
+use Rattle.picture.proofs.Marks.{past-around, base-mark}
 use Rattle.picture.proofs.Ranges.{of-all}
 use Rattle.picture.proofs.Shading.{shade-whole, shade-part}
 

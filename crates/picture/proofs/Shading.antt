@@ -29,7 +29,8 @@ module _ (row top bottom here gone : ℕ) where
     unfolding shadeOf
     shade-part t b g = simp (ne-eqb here 0 n, le-ltb row top t, le-ltb bottom row b, ne-eqb gone 0 g)
 
-pub shade-is : (c : Scale) (row : ℕ) (s : Stretch) (top bottom r : ℕ) → top ≡ rowOf (s .low) (c .base) (c .step) → bottom ≡ rowOf (s .high) (c .base) (c .step)
+pub shade-is : (c : Scale) (row : ℕ) (s : Stretch) (top bottom r : ℕ) → top ≡ rowOf (s .low) (c .base) (c .step)
+    → bottom ≡ rowOf (s .high) (c .base) (c .step)
     → r ≡ shadeOf row top bottom (s .here) (s .gone) → r ≡ shadeAt c row s
 unfolding shadeAt
 shade-is c row s top bottom r t b e = cc

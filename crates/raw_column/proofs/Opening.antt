@@ -1,18 +1,19 @@
 -- Reading a table: that a refusal's number is never 0, what holds at the head of each loop over rows, one law for each way out, and what
 -- an accepted table says of its block. Assumes nothing.
-use mathlib.Core.Path.{_≡_, refl, sym, ap, subst, _∙_}
+use mathlib.Core.Path.{_≡_, refl, sym, ap, _∙_}
 use mathlib.Core.List.{List, [], _∷_, _++_, append-assoc, append-nil}
 use mathlib.Core.Bool.{Bool, true, false, cond, not}
-use Prim.Native.Nat.{ℕ, zero, suc, _+_, _-_, _≤_, _<_, min, zero-le}
+use Prim.Native.Nat.{ℕ, zero, suc, _+_, _-_, _≤_, _<_, zero-le}
 use native.Mathlib.Numerals.{add-one}
 use native.Mathlib.Omega.{arith}
-use lib.ListN.{length, getD, set, take, drop, replicate, length-set, length-take, take-append-drop, length-append, length-replicate, drop-of-length-le, List·getD-append}
+use lib.ListN.{length, getD, set, take, drop, replicate, length-set, length-take, take-append-drop, length-append, length-replicate}
+use lib.ListN.{drop-of-length-le, List·getD-append}
 use lib.Seq.{drop-cons, drop-set-lt, drop-drop, take-suc-set, length-take-le, getD-take, take-at}
-use lib.Dec.{ltb, leb, eqb}
+use lib.Dec.{ltb}
 use borrow.Author.Tests.{ltb-true, ltb-false, lt-ltb, le-ltb}
 use Rattle.leb128.specs.Got.{Got, got, bad}
-use Rattle.leb128.specs.Digits.{Digits, whole, broken, more, digits}
-use Rattle.leb128.specs.Read.{uLarge, uLong, unsigned, narrow, u64At, u32At}
+use Rattle.leb128.specs.Read.{u64At, u32At}
+use Rattle.leb128.proofs.Faults.{u64-fault, u32-fault}
 use Rattle.leb128.proofs.Laws.{u64-next}
 use Rattle.column_specification.specs.Key.{key}
 use Rattle.column_specification.specs.Specification.{compressedOf}
@@ -24,51 +25,10 @@ use Rattle.raw_column.specs.declared.Starts.{Starts}
 use Rattle.raw_column.specs.declared.Opened.{Opened}
 
 -- ---- by cases
-pub number-by : (P : Tab → Type 0) (m : Got ℕ) (k : ℕ → ℕ → Tab) → ((v next : ℕ) → m ≡ got v next → P (k v next)) → ((r place : ℕ) → m ≡ bad r place → P (faulty r place)) → P (withNumber m k)
+pub number-by : (P : Tab → Type 0) (m : Got ℕ) (k : ℕ → ℕ → Tab) → ((v next : ℕ) → m ≡ got v next → P (k v next))
+    → ((r place : ℕ) → m ≡ bad r place → P (faulty r place)) → P (withNumber m k)
 number-by P (got v next) k g b = g v next refl
 number-by P (bad r place) k g b = b r place refl
-
--- ---- a number's refusal is 1, 2 or 3, and never 0
-abbrev SomeBroken : Digits → Type 0
-SomeBroken (whole low scale prev last count) = Unit {0}
-SomeBroken (broken r) = 0 < r
-
-broken-more : (d : ℕ) (c : Digits) → SomeBroken c → SomeBroken (more d c)
-broken-more d (whole low scale prev last count) h = tt
-broken-more d (broken r) h = h
-
-broken-some : (n p : ℕ) (bs : List ℕ) → SomeBroken (digits n p bs)
-broken-some n p [] = omega arith
-broken-some n p (b ∷ bs) = go (ltb b 128) (eqb n 9) (broken-some (n + 1) b bs)
-  where
-    go : (t u : Bool) → SomeBroken (digits (n + 1) b bs) → SomeBroken (cond t (whole 0 1 p b 1) (cond u (broken 2) (more (b - 128) (digits (n + 1) b bs))))
-    go true u h = tt
-    go false true h = omega arith
-    go false false h = broken-more (b - 128) (digits (n + 1) b bs) h
-
-abbrev SomeBad : Got ℕ → Type 0
-SomeBad (got v next) = Unit {0}
-SomeBad (bad r place) = 0 < r
-
-unsigned-some : (at place : ℕ) (c : Digits) → SomeBroken c → SomeBad (unsigned at place c)
-unsigned-some at place (whole low scale prev last count) h =
-    cond-by SomeBad (uLarge last count) (λ e. omega arith) (λ e. cond-by SomeBad (uLong last count) (λ f. omega arith) (λ f. tt))
-unsigned-some at place (broken r) h = h
-
-u64-some : (s : List ℕ) (at : ℕ) → SomeBad (u64At s at)
-unfolding u64At
-u64-some s at = unsigned-some at (min at (length s)) (digits 0 0 (drop at s)) (broken-some 0 0 (drop at s))
-
-narrow-some : (at : ℕ) (g : Got ℕ) → SomeBad g → SomeBad (narrow at g)
-narrow-some at (got v next) h = cond-by SomeBad (leb v 4294967295) (λ e. tt) (λ e. omega arith)
-narrow-some at (bad r place) h = h
-
-pub u64-fault : (s : List ℕ) (at r place : ℕ) → u64At s at ≡ bad r place → 0 < r
-u64-fault s at r place e = subst SomeBad e (u64-some s at)
-
-pub u32-fault : (s : List ℕ) (at r place : ℕ) → u32At s at ≡ bad r place → 0 < r
-unfolding u32At
-u32-fault s at r place e = subst SomeBad e (narrow-some at (u64At s at) (u64-some s at))
 
 -- ---- lists in 64 places
 less : (n i : ℕ) → i < n → n - i ≡ suc (n - (i + 1))
@@ -134,7 +94,12 @@ pub record Going (s : List ℕ) (at n : ℕ) (specs lens : List ℕ) (i p : ℕ)
 pub going-start : (s : List ℕ) (at n : ℕ) → Going s at n (replicate 64 0) (replicate 64 0) 0 at
 going-start s at n =
     let e : n - 0 ≡ n = omega arith in
-    record { within = zero-le; specs-free = none-used; lens-free = none-used; rest = ap (λ (k : ℕ). ahead [] [] (rowsAt k s at)) e ∙ ahead-none (rowsAt n s at) }
+    record {
+      within = zero-le;
+      specs-free = none-used;
+      lens-free = none-used;
+      rest = ap (λ (k : ℕ). ahead [] [] (rowsAt k s at)) e ∙ ahead-none (rowsAt n s at);
+    }
 
 module _ {s : List ℕ} {at n : ℕ} {specs lens : List ℕ} {i p : ℕ} (g : Going s at n specs lens i p) (t : i < n) where
   pub going-bad : {r place : ℕ} → u32At s p ≡ bad r place → faulty r place ≡ rowsAt n s at
@@ -180,7 +145,8 @@ module _ {s : List ℕ} {at n : ℕ} {specs lens : List ℕ} {i p : ℕ} (g : Go
   going-out =
       let e : i ≡ n = omega (arith, g .within) in
       ap (λ (xs : List ℕ). record { specs = xs; lens = lens; number = 0; place = 0; next = p }) (used-pad specs n h (rw e at (g .specs-free)))
-      ∙ ap (λ (xs : List ℕ). record { specs = pad (take n specs); lens = xs; number = 0; place = 0; next = p }) (used-pad lens n h (rw e at (g .lens-free)))
+      ∙ ap (λ (xs : List ℕ). record { specs = pad (take n specs); lens = xs; number = 0; place = 0; next = p })
+      (used-pad lens n h (rw e at (g .lens-free)))
       ∙ ap rowsOf going-end
 
 -- ---- tests over the first n: one element more, and the end
@@ -237,7 +203,8 @@ pub summing-start : (lens : List ℕ) (n room : ℕ) → Summing lens n room (re
 summing-start lens n room = record { within = zero-le; free = none-used; fits = zero-le; rest = omega arith; starts-rest = refl }
 
 module _ {lens : List ℕ} {n room : ℕ} {starts : List ℕ} {total i : ℕ} (g : Summing lens n room starts total i) where
-  pub summing-turn : n ≤ 64 → n ≤ length lens → i < n → getD lens i 0 ≤ room - total → Summing lens n room (set starts i total) (total + getD lens i 0) (i + 1)
+  pub summing-turn : n ≤ 64 → n ≤ length lens → i < n → getD lens i 0 ≤ room - total
+      → Summing lens n room (set starts i total) (total + getD lens i 0) (i + 1)
   summing-turn h m t r =
       let b : i < 64 = omega arith in
       record {
@@ -252,7 +219,8 @@ module _ {lens : List ℕ} {n room : ℕ} {starts : List ℕ} {total i : ℕ} (g
             ∙ g .starts-rest;
       }
 
-  pub summing-over : n ≤ length lens → i < n → room - total < getD lens i 0 → _≡_ {A = Starts} (record { starts = replicate 64 0; total = 0; over = true }) (startsOf room (take n lens))
+  pub summing-over : n ≤ length lens → i < n → room - total < getD lens i 0
+      → _≡_ {A = Starts} (record { starts = replicate 64 0; total = 0; over = true }) (startsOf room (take n lens))
   summing-over m t r =
       let h : room < sum (take n lens) = omega (arith, g .fits, g .rest, sum-on lens n i m t) in
       rw (lt-ltb room (sum (take n lens)) h)
@@ -273,7 +241,9 @@ module _ {lens : List ℕ} {n room : ℕ} {starts : List ℕ} {total i : ℕ} (g
 
 -- the sums' answer: over, or the sum and the starts
 abbrev startsBy : Bool → List ℕ → Starts
-startsBy b lens = cond b (record { starts = replicate 64 0; total = 0; over = true }) (record { starts = pad (startsFrom 0 lens); total = sum lens; over = false })
+startsBy b lens =
+    cond b (record { starts = replicate 64 0; total = 0; over = true })
+    (record { starts = pad (startsFrom 0 lens); total = sum lens; over = false })
 
 over-by : (b : Bool) (lens : List ℕ) (r : Starts) → r ≡ startsBy b lens → r .over ≡ b
 over-by true lens r e = ap (λ (x : Starts). x .over) e
@@ -322,11 +292,14 @@ module _ (size next : ℕ) (specs lens : List ℕ) where
           rw (e, f, le-ltb (size - next) (sum lens) g, le-ltb (sum lens) (size - next) k)
 
 pub judged-out : (size n : ℕ) (r : Rows) (starts : List ℕ) → n ≤ length (r .specs) → r .specs ≡ pad (take n (r .specs)) → r .lens ≡ pad (take n (r .lens))
-    → starts ≡ pad (startsFrom 0 (take n (r .lens))) → inOrder 0 (take n (r .specs)) ≡ true → plain (take n (r .specs)) ≡ true → sum (take n (r .lens)) ≡ size - r .next
-    → _≡_ {A = Opened} (record { table = record { specs = r .specs; starts = starts; lens = r .lens; rows = n }; number = 0; place = 0; start = r .next }) (opened (judged size (tab (take n (r .specs)) (take n (r .lens)) (r .next))))
+    → starts ≡ pad (startsFrom 0 (take n (r .lens))) → inOrder 0 (take n (r .specs)) ≡ true → plain (take n (r .specs)) ≡ true
+    → sum (take n (r .lens)) ≡ size - r .next
+    → _≡_ {A = Opened} (record { table = record { specs = r .specs; starts = starts; lens = r .lens; rows = n }; number = 0; place = 0; start = r .next })
+    (opened (judged size (tab (take n (r .specs)) (take n (r .lens)) (r .next))))
 judged-out size n r starts h a b s e f k =
     let l : length (take n (r .specs)) ≡ n = length-take-le n (r .specs) h in
-    let t : tab (take n (r .specs)) (take n (r .lens)) (r .next) ≡ judged size (tab (take n (r .specs)) (take n (r .lens)) (r .next)) = judged-tab size (r .next) (take n (r .specs)) (take n (r .lens)) e f k in
+    let t : tab (take n (r .specs)) (take n (r .lens)) (r .next) ≡ judged size (tab (take n (r .specs)) (take n (r .lens)) (r .next)) =
+    judged-tab size (r .next) (take n (r .specs)) (take n (r .lens)) e f k in
     rw (← t, ← a, ← b, ← s, l)
 
 -- ---- read_table: the rows that read_rows answers with
@@ -408,7 +381,11 @@ judged-ok n size (tab specs lens next) h r =
     (λ e. cond-by (ParseOk size) (not (plain specs)) (λ f. omega arith)
     (λ f. cond-by (ParseOk size) (ltb (size - next) (sum lens)) (λ g. omega arith)
     (λ g. cond-by (ParseOk size) (ltb (sum lens) (size - next)) (λ k. omega arith)
-    (λ k. (omega (arith, r .0), omega (arith, r .0, r .1), omega (arith, r .2, ltb-false (size - next) (sum lens) g, ltb-false (sum lens) (size - next) k))))))
+    (λ k. (
+      omega (arith, r .0),
+      omega (arith, r .0, r .1),
+      omega (arith, r .2, ltb-false (size - next) (sum lens) g, ltb-false (sum lens) (size - next) k),
+    )))))
 
 pub parse-ok : (s : List ℕ) → ParseOk (length s) (parse s)
 unfolding parse
@@ -475,7 +452,8 @@ open-case s (tab specs lens next) o p h e z =
       lens-long = rw b (pad-long lens (omega (arith, h .0, h .1)));
       fills = rw (b′, q) (h .2);
       starts-are = λ i w. rw (b′, t)
-          (pad-at (startsFrom 0 lens) i (omega (arith, starts-long 0 lens, h .1, n)) ∙ (let r = start-is 0 lens i (omega (arith, h .1, n)) in omega (arith, r)));
+          (pad-at (startsFrom 0 lens) i (omega (arith, starts-long 0 lens, h .1, n))
+          ∙ (let r = start-is 0 lens i (omega (arith, h .1, n)) in omega (arith, r)));
     }
 open-case s (faulty number place) o p h e z =
     let f : o .number ≡ number = ap (λ (x : Opened). x .number) e in

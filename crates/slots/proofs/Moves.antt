@@ -42,7 +42,8 @@ module _ {A : Type 0} where
       rw (e, f) at (put-turn {v = z} z k (omega arith) (omega (arith, l)) (sym (getD-replicate (end - at) (i - at) z z (omega arith))))
 
   -- one that moves down: what it reads was not stored yet
-  paste-past : (d : List A) (at : ℕ) (src : List A) (n i : ℕ) (z : A) → at ≤ length d → n ≤ length src → at + n ≤ i → getD (paste d at src n) i z ≡ getD d i z
+  paste-past : (d : List A) (at : ℕ) (src : List A) (n i : ℕ) (z : A) → at ≤ length d → n ≤ length src → at + n ≤ i
+      → getD (paste d at src n) i z ≡ getD d i z
   paste-past d at src n i z hd hs h =
       let e : i ≡ (at + n) + (i - (at + n)) = omega arith in
       ap (λ (k : ℕ). getD (paste d at src n) k z) e
@@ -56,7 +57,8 @@ module _ {A : Type 0} where
   down-turn {d} {to} {i} z from k h b e =
       let l : i < length (drop from d) = omega (arith, length-drop from d) in
       put-turn z k (omega arith) l
-      (e ∙ ap (λ (x : List A). getD x (from + i) z) (k .is) ∙ paste-past d to (drop from d) i (from + i) z (omega arith) (omega arith) (omega arith) ∙ sym (getD-drop from d i z))
+      (e ∙ ap (λ (x : List A). getD x (from + i) z) (k .is) ∙ paste-past d to (drop from d) i (from + i) z (omega arith) (omega arith) (omega arith)
+      ∙ sym (getD-drop from d i z))
 
   -- one that moves up: of n elements the last n - i were stored
   paste-front : (d : List A) (at : ℕ) (src : List A) (n i : ℕ) (z : A) → at ≤ length d → i < at → getD (paste d at src n) i z ≡ getD d i z
@@ -65,7 +67,8 @@ module _ {A : Type 0} where
       let m : i < length (take at d ++ take n src) = omega (arith, length-append (take at d) (take n src)) in
       List·getD-append (take at d ++ take n src) (drop (at + n) d) z i m ∙ List·getD-append (take at d) (take n src) z i l ∙ getD-take at d i z h
 
-  up-step : (d : List A) (a b k : ℕ) (z : A) → a < length d → b < length d → set (paste d (suc a) (drop (suc b) d) k) a (getD d b z) ≡ paste d a (drop b d) (suc k)
+  up-step : (d : List A) (a b k : ℕ) (z : A) → a < length d → b < length d
+      → set (paste d (suc a) (drop (suc b) d) k) a (getD d b z) ≡ paste d a (drop b d) (suc k)
   up-step d a b k z ha hb =
       let e : suc a + k ≡ a + suc k = omega arith in
       let r : List A = take k (drop (suc b) d) ++ drop (suc a + k) d in
@@ -88,7 +91,8 @@ module _ {A : Type 0} where
       e ∙ ap (λ (x : List A). getD x (from + j) z) (k .is) ∙ paste-front d (to + i) (drop (from + i) d) (n - i) (from + j) z (omega arith) (omega arith) in
       let here : s ≡ paste d (suc (to + j)) (drop (suc (from + j)) d) (n - i) = rw (a, b) at (k .is) in
       record {
-        is = rw (was, ← m) (ap (λ (l : List A). set l (to + j) (getD d (from + j) z)) here ∙ up-step d (to + j) (from + j) (n - i) z (omega arith) (omega arith));
+        is = rw (was, ← m) (ap (λ (l : List A). set l (to + j) (getD d (from + j) z)) here ∙ up-step d (to + j) (from + j) (n - i) z (omega arith)
+            (omega arith));
         long = length-set s (to + j) v ∙ k .long;
       }
 

@@ -31,17 +31,21 @@ module _ {A : Type 0} where
       omega (arith, length-append (take a xs) (new ++ drop e xs), length-append new (drop e xs), length-take-le a xs (omega arith), length-drop e xs)
 
 -- ---- the splice where there is room for it: after the move, the put and the clearing
-module _ {A : Type 0} (z : A) (d : List A) (old a e : ℕ) (new : List A) (room : (a ≤ e) × (e ≤ old) × (old ≤ length d) × (a + length new + (old - e) ≤ length d)) where
+module _ {A : Type 0} (z : A) (d : List A) (old a e : ℕ) (new : List A)
+    (room : (a ≤ e) × (e ≤ old) × (old ≤ length d) × (a + length new + (old - e) ≤ length d)) where
   drop-take : drop e (take old d) ≡ take (old - e) (drop e d)
   drop-take =
       let q : old ≡ e + (old - e) = omega arith in
-      ap (λ (k : ℕ). drop e (take k d)) q ∙ ap (drop e) (take-add e (old - e) d) ∙ drop-at (take e d) (take (old - e) (drop e d)) e (length-take-le e d (omega arith))
+      ap (λ (k : ℕ). drop e (take k d)) q ∙ ap (drop e) (take-add e (old - e) d) ∙ drop-at (take e d) (take (old - e) (drop e d)) e
+      (length-take-le e d (omega arith))
 
   result-is : spliced (take old d) a e new ≡ take a d ++ (new ++ take (old - e) (drop e d))
   result-is = rw (take-take a old d (omega arith), drop-take)
 
   result-long : length (spliced (take old d) a e new) ≡ a + length new + (old - e)
-  result-long = let l = length-take-le old d (room .2) in length-spliced (take old d) a e new (room .0) (omega arith) ∙ ap (λ (k : ℕ). a + length new + (k - e)) l
+  result-long =
+      let l = length-take-le old d (room .2) in
+      length-spliced (take old d) a e new (room .0) (omega arith) ∙ ap (λ (k : ℕ). a + length new + (k - e)) l
 
   put-moved : {s₁ s₂ : List A} → s₁ ≡ paste d (a + length new) (drop e d) (old - e) → s₂ ≡ paste s₁ a new (length new)
       → s₂ ≡ spliced (take old d) a e new ++ drop (a + length new + (old - e)) d
@@ -53,7 +57,8 @@ module _ {A : Type 0} (z : A) (d : List A) (old a e : ℕ) (new : List A) (room 
       ∙ take-append-le a (take to d) (take n (drop e d) ++ drop (to + n) d) (omega (arith, length-take-le to d (omega arith)))
       ∙ take-take a to d (omega arith) in
       let c : drop to (paste d to (drop e d) n) ≡ take n (drop e d) ++ drop (to + n) d =
-      ap (drop to) (append-assoc (take to d) (take n (drop e d)) (drop (to + n) d)) ∙ drop-at (take to d) (take n (drop e d) ++ drop (to + n) d) to (length-take-le to d (omega arith)) in
+      ap (drop to) (append-assoc (take to d) (take n (drop e d)) (drop (to + n) d)) ∙ drop-at (take to d) (take n (drop e d) ++ drop (to + n) d) to
+      (length-take-le to d (omega arith)) in
       p ∙ ap (λ (x : List A). paste x a new (length new)) m ∙ rw (b, c, take-length new, result-is) (simp append-assoc)
 
   pub placed : {s₁ s₂ : List A} → s₁ ≡ paste d (a + length new) (drop e d) (old - e) → s₂ ≡ paste s₁ a new (length new)

@@ -1,5 +1,5 @@
--- DEMAND 3, from the definitions alone and once for every kind of column. "An edit of one column depends on nothing inside the others, which
--- keep their bytes; an accepted edit writes the encoding of the old list with the range replaced." Assumes nothing.
+-- Demand 3 of the definitions that the edits' contracts equal, once for every kind of column: the same edit of two blocks that differ only
+-- elsewhere comes to the same; what an accepted edit writes, and that it keeps every other column. Of the calls: Demand3.antt. Assumes nothing.
 use Prim.Native.Nat.{ℕ, _+_, _-_, _^_, _≤_, _<_, min, max}
 use mathlib.Core.Path.{_≡_, refl, sym, ap, _∙_, subst}
 use mathlib.Core.List.{List, [], _++_}
@@ -24,8 +24,10 @@ use Rattle.block_frame.proofs.Cutting.{cut-at}
 use Rattle.block_frame.proofs.Tables.{Below, table-fills, table-back}
 use Rattle.slots.specs.Splice.{spliced}
 use Rattle.splice.specs.Kind.{Kind}
-use Rattle.splice.specs.Edit.{Edited, stop, late, accepted, endIn, below, serves, finished, editList, readBy, editColumn, editIn, edited, answered, slotsLeft}
+use Rattle.splice.specs.Edit.{Edited, stop, late, accepted, endIn, below, serves, finished, editList, readBy, editColumn, editIn, edited}
+use Rattle.splice.specs.Edit.{answered, slotsLeft}
 use Rattle.splice.specs.declared.End.{End}
+use Rattle.splice.proofs.Planning.{in-order}
 
 -- the column at a position, as an edit takes it
 abbrev columnAt : List ℕ → List ℕ → ℕ → ℕ → List ℕ
@@ -89,7 +91,8 @@ module _ {A : Type 0} (K : Kind A) (s s′ specs lens : List ℕ) (next position
 
   module _ (room : ℕ) (fits : room < 2 ^ 64) where
     finished-alike : (old : ℕ) (xs : List A) (w : Option ℕ)
-        → Alike K s s′ specs lens position (finished K old xs room (newBlock s specs lens next position) w) (finished K old xs room (newBlock s′ specs lens next position) w)
+        → Alike K s s′ specs lens position
+        (finished K old xs room (newBlock s specs lens next position) w) (finished K old xs room (newBlock s′ specs lens next position) w)
     finished-alike old xs (some i) = both-late 7 i old xs
     finished-alike old xs none =
         let c = K .writes xs in
@@ -134,8 +137,8 @@ module _ {A : Type 0} (K : Kind A) (s s′ specs lens : List ℕ) (next position
 
 -- ---- blocks of one length that differ only inside other columns have one table
 
-pub one-table : (s s′ specs lens : List ℕ) (next : ℕ) → Below 256 s → parse s ≡ tab specs lens next → length s′ ≡ length s → take next s′ ≡ take next s
-    → parse s′ ≡ tab specs lens next
+pub one-table : (s s′ specs lens : List ℕ) (next : ℕ) → Below 256 s → parse s ≡ tab specs lens next → length s′ ≡ length s
+    → take next s′ ≡ take next s → parse s′ ≡ tab specs lens next
 one-table s s′ specs lens next bytes e l t =
     let o = accepted-written s specs lens next bytes e in
     let T = tableBytes specs lens in
@@ -152,6 +155,7 @@ module _ {A : Type 0} (K : Kind A) (s specs lens : List ℕ) (next position star
   pub record Right (old : ℕ) (xs : List A) (block : List ℕ) : Type 0 where
     pub sound : K .reads (columnAt s lens next position) .ending ≡ Ending.sound
     pub size : old ≡ length (K .reads (columnAt s lens next position) .readings)
+    pub ordered : start ≤ endIn end old
     pub within : endIn end old ≤ old
     pub list : xs ≡ spliced (K .reads (columnAt s lens next position) .readings) start (endIn end old) new
     pub block-is : block ≡ newBlock s specs lens next position (K .writes xs)
@@ -163,45 +167,56 @@ module _ {A : Type 0} (K : Kind A) (s specs lens : List ℕ) (next position star
   RightIn (late number place old xs) = Unit {0}
   RightIn (accepted old xs block) = Right old xs block
 
-  right-list : (slots : ℕ) → position < length specs → K .reads (columnAt s lens next position) .ending ≡ Ending.sound
+  right-list : (slots : ℕ) → position < length specs → below start end ≡ false → K .reads (columnAt s lens next position) .ending ≡ Ending.sound
       → RightIn (editList K (K .reads (columnAt s lens next position) .readings) start end new slots room (newBlock s specs lens next position))
-  right-list slots row e =
+  right-list slots row n e =
       let old = K .reads (columnAt s lens next position) .readings in
       let xs = spliced old start (endIn end (length old)) new in
       cond-by RightIn (ltb (length old) start) (λ h. tt)
-      (λ h. cond-by RightIn (ltb (length old) (endIn end (length old))) (λ b. tt)
+      (λ a. cond-by RightIn (ltb (length old) (endIn end (length old))) (λ b. tt)
       (λ b. cond-by RightIn (ltb limit (length xs)) (λ h. tt)
       (λ h. cond-by RightIn (ltb slots (max (length old) (length xs))) (λ h. tt)
-      (λ h. go (ltb-false (length old) (endIn end (length old)) b) (K .wide xs)))))
+      (λ h. go (in-order (length old) start end n (ltb-false (length old) start a)) (ltb-false (length old) (endIn end (length old)) b)
+      (K .wide xs)))))
     where
-      go : let n = length (K .reads (columnAt s lens next position) .readings) in endIn end n ≤ n → (w : Option ℕ)
+      go : let n = length (K .reads (columnAt s lens next position) .readings) in start ≤ endIn end n → endIn end n ≤ n → (w : Option ℕ)
           → let old = K .reads (columnAt s lens next position) .readings in let xs = spliced old start (endIn end (length old)) new in
           RightIn (finished K (length old) xs room (newBlock s specs lens next position) w)
-      go b (some i) = tt
-      go b none =
+      go a b (some i) = tt
+      go a b none =
           let old = K .reads (columnAt s lens next position) .readings in
           let xs = spliced old start (endIn end (length old)) new in
           cond-by RightIn (leb (length (newBlock s specs lens next position (K .writes xs))) room)
-          (λ h. record { sound = e; size = refl; within = b; list = refl; block-is = refl; served = row; fits = leb-true (length (newBlock s specs lens next position (K .writes xs))) room h })
+          (λ h. record {
+            sound = e;
+            size = refl;
+            ordered = a;
+            within = b;
+            list = refl;
+            block-is = refl;
+            served = row;
+            fits = leb-true (length (newBlock s specs lens next position (K .writes xs))) room h;
+          })
           (λ h. tt)
 
-  right-column : (slots : ℕ) (given : Answer) → position < length specs
+  right-column : (slots : ℕ) (given : Answer) → position < length specs → below start end ≡ false
       → RightIn (editColumn K (columnAt s lens next position) start end given new slots room (newBlock s specs lens next position))
   unfolding outcome outcomeOf
-  right-column slots (refused number place) row = tt
-  right-column slots (done g) row = go (K .reads (columnAt s lens next position) .ending) refl
+  right-column slots (refused number place) row n = tt
+  right-column slots (done g) row n = go (K .reads (columnAt s lens next position) .ending) refl
     where
       go : (x : Ending) → K .reads (columnAt s lens next position) .ending ≡ x
-          → RightIn (readBy K (outcomeOf (length (K .reads (columnAt s lens next position) .readings)) x) (K .reads (columnAt s lens next position) .readings)
+          → RightIn (readBy K (outcomeOf (length (K .reads (columnAt s lens next position) .readings)) x)
+          (K .reads (columnAt s lens next position) .readings)
           (λ old. editList K old start end new slots room (newBlock s specs lens next position)))
-      go Ending.sound e = right-list slots row e
+      go Ending.sound e = right-list slots row n e
       go (fault number place) e = tt
 
   right-in : (slots : ℕ) (given : Answer) → RightIn (editIn K s position start end given new slots room (tab specs lens next))
   right-in slots given =
       cond-by RightIn (ltb position (length specs))
       (λ h. cond-by RightIn (serves (K .kind) (getD specs position 0))
-      (λ h′. cond-by RightIn (below start end) (λ h″. tt) (λ h″. right-column slots given (ltb-true position (length specs) h)))
+      (λ h′. cond-by RightIn (below start end) (λ h″. tt) (λ n. right-column slots given (ltb-true position (length specs) h) n))
       (λ h′. tt)) (λ h. tt)
 
   pub accepted-right : (slots : ℕ) (given : Answer) (old : ℕ) (xs : List A) (block : List ℕ) → parse s ≡ tab specs lens next
@@ -215,8 +230,8 @@ module _ {A : Type 0} (K : Kind A) (s specs lens : List ℕ) (next position star
     pub chosen : bytesOf block (partAt block position) ≡ column
     pub others : (j : ℕ) → (j ≡ position → ⊥) → bytesOf block (partAt block j) ≡ bytesOf s (partAt s j)
 
-  pub accepted-kept : (slots : ℕ) (given : Answer) (old : ℕ) (xs : List A) (block : List ℕ) → length s < 2 ^ 64 → room < 2 ^ 64 → parse s ≡ tab specs lens next
-      → edited K s position start end given new slots room ≡ accepted old xs block → Kept (K .writes xs) block
+  pub accepted-kept : (slots : ℕ) (given : Answer) (old : ℕ) (xs : List A) (block : List ℕ) → length s < 2 ^ 64 → room < 2 ^ 64
+      → parse s ≡ tab specs lens next → edited K s position start end given new slots room ≡ accepted old xs block → Kept (K .writes xs) block
   accepted-kept slots given old xs block short small e h =
       let r = accepted-right slots given old xs block e h in
       let c = K .writes xs in
@@ -236,21 +251,26 @@ module _ {A : Type 0} (K : Kind A) (s specs lens : List ℕ) (next position star
         others = λ j d. ap (λ (x : List ℕ). bytesOf x (partAt x j)) b ∙ k .1 j d;
       }
 
--- ---- in one: two blocks of one length that differ only inside columns other than the chosen one
-pub record OnlyElsewhere (s s′ specs lens : List ℕ) (next position : ℕ) : Type 0 where
-  pub bytes : Below 256 s
+-- ---- in one: two blocks of one length that differ only inside columns other than the one at a position
+pub record OnlyElsewhere (s s′ : List ℕ) (position : ℕ) : Type 0 where
+  pub specs : List ℕ
+  pub lens : List ℕ
+  pub next : ℕ
   pub table : parse s ≡ tab specs lens next
   pub size : length s′ ≡ length s
   pub front : take next s′ ≡ take next s
   pub chosen : columnAt s′ lens next position ≡ columnAt s lens next position
 
-alike-answer : {A : Type 0} {K : Kind A} {s s′ specs lens : List ℕ} {position : ℕ} {e e′ : Edited A} → Alike K s s′ specs lens position e e′ → answered e ≡ answered e′
+-- alike edits have one answer: number, place, length and new table
+pub alike-answer : {A : Type 0} {K : Kind A} {s s′ specs lens : List ℕ} {position : ℕ} {e e′ : Edited A} → Alike K s s′ specs lens position e e′
+    → answered e ≡ answered e′
 alike-answer (both-stop number place) = refl
 alike-answer (both-late number place old xs) = refl
 alike-answer (both-accepted old xs block block′ a) =
     ap (λ (t : Tab). record { table = opened t .table; number = 0; place = 0; len = length block }) (a .table ∙ sym (a .table′))
     ∙ ap (λ (n : ℕ). record { table = opened (parse block′) .table; number = 0; place = 0; len = n }) (a .size)
 
+-- and leave the same in the same slots
 pub alike-slots : {A B : Type 0} {K : Kind A} {s s′ specs lens : List ℕ} {position : ℕ} {e e′ : Edited A} (z : B) (f : A → B) (v : List B)
     → Alike K s s′ specs lens position e e′ → slotsLeft z f e v ≡ slotsLeft z f e′ v
 alike-slots z f v (both-stop number place) = refl
@@ -262,20 +282,23 @@ no-row : {A : Type 0} (K : Kind A) (s specs lens : List ℕ) (next position star
 unfolding edited
 no-row K s specs lens next position start end given new slots room e h = rw (e, h)
 
--- the same answer and place, the same new table, the same new column; and the slots are the same by `alike-slots`
-pub demand-3 : {A : Type 0} (K : Kind A) (s s′ specs lens : List ℕ) (next position start : ℕ) (end : End) (given : Answer) (new : List A) (slots room : ℕ)
-    → OnlyElsewhere s s′ specs lens next position → length s < 2 ^ 64 → room < 2 ^ 64
-    → (answered (edited K s position start end given new slots room) ≡ answered (edited K s′ position start end given new slots room))
-    × Alike K s s′ specs lens position (edited K s position start end given new slots room) (edited K s′ position start end given new slots room)
-demand-3 K s s′ specs lens next position start end given new slots room o short small =
-    let t′ = one-table s s′ specs lens next (o .bytes) (o .table) (o .size) (o .front) in
-    let a = go (ltb position (length specs)) refl t′ in
-    (alike-answer a, a)
+-- the same edit of two such blocks, of bytes and of lengths that the code has, comes to the same
+pub alike : {A : Type 0} (K : Kind A) (s s′ : List ℕ) (position start : ℕ) (end : End) (given : Answer) (new : List A) (slots room : ℕ)
+    (o : OnlyElsewhere s s′ position) → Below 256 s → length s < 2 ^ 64 → room < 2 ^ 64
+    → Alike K s s′ (o .specs) (o .lens) position
+    (edited K s position start end given new slots room) (edited K s′ position start end given new slots room)
+alike K s s′ position start end given new slots room o bytes short small =
+    go (ltb position (length (o .specs))) refl (one-table s s′ (o .specs) (o .lens) (o .next) bytes (o .table) (o .size) (o .front))
   where
-    go : (b : Bool) → ltb position (length specs) ≡ b → parse s′ ≡ tab specs lens next
-        → Alike K s s′ specs lens position (edited K s position start end given new slots room) (edited K s′ position start end given new slots room)
+    go : (b : Bool) → ltb position (length (o .specs)) ≡ b → parse s′ ≡ tab (o .specs) (o .lens) (o .next)
+        → Alike K s s′ (o .specs) (o .lens) position
+        (edited K s position start end given new slots room) (edited K s′ position start end given new slots room)
     go true h t′ =
-        isolated K s s′ specs lens next position short (o .table) t′ (ltb-true position (length specs) h) (sym (o .chosen)) room small start end given new slots
+        isolated K s s′ (o .specs) (o .lens) (o .next) position short (o .table) t′ (ltb-true position (length (o .specs)) h) (sym (o .chosen))
+        room small start end given new slots
     go false h t′ =
-        rw (no-row K s specs lens next position start end given new slots room (o .table) h, no-row K s′ specs lens next position start end given new slots room t′ h)
+        rw (
+          no-row K s (o .specs) (o .lens) (o .next) position start end given new slots room (o .table) h,
+          no-row K s′ (o .specs) (o .lens) (o .next) position start end given new slots room t′ h,
+        )
         (both-stop 16 0)

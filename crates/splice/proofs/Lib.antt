@@ -1,8 +1,10 @@
 pub mod BooleanEdits
 pub mod Counting
+pub mod Demand3
 pub mod Editing
 pub mod Examples
 pub mod Isolated
+pub mod Numbered
 pub mod OptionalEdits
 pub mod Planning
 pub mod Replacing

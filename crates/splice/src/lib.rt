@@ -15,6 +15,8 @@ use encoding::LIMIT;
 use raw_column::Table;
 use raw_column::read_table;
 
+mod lent;
+
 // The new block's table and length; or a refusal's number and place, and a table of no rows. The number is 0 where there is none.
 pub struct Spliced {
     pub table: Table,

@@ -126,27 +126,39 @@ part-put-around-end-2 c = search needs
 
 put-around-requires : tie.Need-put-around-requires
 put-around-requires c κs =
+    let table-len = c .before .before .before .before .before .before .before .table-len in
+    let if1 = c .before .before .before .before .before .before .if1 in
+    let if2 = c .before .before .before .before .before .if2 in
     let a = c .before .before .before .before .before .before .before .before .before .before .before .before .before .before .before .before in
-    let e = frame-length (a .pre) (a .args .size) (c .before .before .before .before .before .before .before .table-len .result) (c .before .before .before .before .before .before .before .table-len .ensures .0) in
+    let e = frame-length (a .pre) (a .args .size) (table-len .result) (table-len .ensures .0) in
     let p = a .pre in
-    ((omega (arith, p .few, p .specs-long), simp length-set (omega (arith, p .few, p .lens-long))), omega (arith, c .before .before .before .before .before .before .if1 .left, c .before .before .before .before .before .if2 .left))
+    ((omega (arith, p .few, p .specs-long), simp length-set (omega (arith, p .few, p .lens-long))), omega (arith, if1 .left, if2 .left))
 
 add-t15 : tie.Need-add-t15
-add-t15 c = omega (arith, c .before .before .before .before .before .before .before .before .before .if1 .left, c .before .before .before .before .before .before .before .before .if2 .left, c .before .before .before .before .before .before .before .before .before .before .before .before .before .before .before .before .before .before .before .good)
+add-t15 c =
+    let t = c .before .before .before .before .before .before .before .before .before in
+    let if2 = c .before .before .before .before .before .before .before .before .if2 in
+    omega (arith, t .if1 .left, if2 .left, t .before .before .before .before .before .before .before .before .before .before .good)
 
 same-length : tie.Need-same-length
 same-length c = search needs
 
 returns-3 : tie.Need-returns-3
 returns-3 c =
-    let a = c .before .before .before .before .before .before .before .before .before .before .before .before .before .before .before .before .before .before .before in
-    let e = frame-length (a .pre) (a .args .size) (c .before .before .before .before .before .before .before .before .before .before .table-len .result) (c .before .before .before .before .before .before .before .before .before .before .table-len .ensures .0) in
+    let t = c .before .before .before .before .before .before .before .before .before .before in
+    let a = t .before .before .before .before .before .before .before .before .before in
+    let table-len = t .table-len in
+    let if1 = c .before .before .before .before .before .before .before .before .before .if1 in
+    let if2 = c .before .before .before .before .before .before .before .before .if2 in
+    let put-around = c .before .before .put-around in
+    let e = frame-length (a .pre) (a .args .size) (table-len .result) (table-len .ensures .0) in
     let size = a .args .size in
     let b = before (a .args .block .now) (a .args .t2) (a .args .next) (a .args .position) size in
     let z = behind (a .args .block .now) (a .args .t2) (a .args .next) (a .args .position) in
-    let r = frame-room (a .pre) size (length (a .args .out .now)) (omega (arith, c .before .before .before .before .before .before .before .before .before .if1 .left, c .before .before .before .before .before .before .before .before .if2 .left)) in (
-      frame-eq _ _ size b z (c .before .before .put-around .ensures .0) e ∙ ap (frameOf size) (sym r),
-      c .before .before .put-around .ensures .1 ∙ ap (λ (y : Framed). frameOut size y (a .args .out .now)) (sym r),
+    let r = frame-room (a .pre) size (length (a .args .out .now)) (omega (arith, if1 .left, if2 .left)) in (
+      frame-eq _ _ size b z (put-around .ensures .0) e ∙ ap (frameOf size) (sym r),
+      put-around .ensures .1
+          ∙ ap (λ (y : Framed). frameOut size y (a .args .out .now)) (sym r),
     )
 
 pub frame-in-spec : {M : Type 1} → statement M

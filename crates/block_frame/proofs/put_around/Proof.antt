@@ -17,7 +17,10 @@ same-length : tie.Need-same-length
 same-length c = search needs
 
 returns : tie.Need-returns
-returns c = put-apart (c .before .before .before .before .before .before .before .before .before .before .before .before .before .args .size) (c .before .before .before .before .before .before .put-head .ensures) (c .before .before .put-bytes .ensures) (c .before .before .before .before .before .before .before .before .before .before .before .before .before .pre .1)
+returns c =
+    let s = c .before .before .before .before .before .before .before .before .before .before .before .before .before in
+    let put-head = c .before .before .before .before .before .before .put-head in
+    put-apart (s .args .size) (put-head .ensures) (c .before .before .put-bytes .ensures) (s .pre .1)
 
 pub put-around-spec : {M : Type 1} → statement M
 put-around-spec =

@@ -17,8 +17,10 @@ no-frame-requires c κs = search needs
 
 returns : tie.Need-returns
 returns c =
+    let read-table = c .before .before .before .read-table in
     let a = c .before .before .before .before .before .before .args in
-    let r = framed-bad (a .block .now) (a .position) (a .size) (length (a .out .now)) (open-bad (a .block .now) (c .before .before .before .read-table .ensures) (c .before .if1 .taken)) in
+    let r = framed-bad (a .block .now) (a .position) (a .size) (length (a .out .now))
+    (open-bad (a .block .now) (read-table .ensures) (c .before .if1 .taken)) in
     (c .no-frame .ensures ∙ ap (frameOf (a .size)) (sym r), ap (λ (z : Framed). frameOut (a .size) z (a .out .now)) (sym r))
 
 no-frame-requires-2 : tie.Need-no-frame-requires-2
@@ -26,21 +28,28 @@ no-frame-requires-2 c κs = search needs
 
 returns-2 : tie.Need-returns-2
 returns-2 c =
+    let read-table = c .before .before .before .before .before .before .read-table in
+    let if1 = c .before .before .before .before .if1 in
     let a = c .before .before .before .before .before .before .before .before .before .args in
-    let g = open-good (a .block .now) (c .before .before .before .before .before .before .read-table .ensures) (c .before .before .before .before .if1 .left) in
-    let r = framed-16 (a .block .now) (a .position) (a .size) (length (a .out .now)) _ _ _ (g .is) (omega (arith, rows-long g, c .before .if2 .taken)) in
+    let g = open-good (a .block .now) (read-table .ensures) (if1 .left) in
+    let r = framed-16 (a .block .now) (a .position) (a .size) (length (a .out .now)) _ _ _ (g .is)
+    (omega (arith, rows-long g, c .before .if2 .taken)) in
     (c .no-frame2 .ensures ∙ ap (frameOf (a .size)) (sym r), ap (λ (z : Framed). frameOut (a .size) z (a .out .now)) (sym r))
 
 frame-in-requires : tie.Need-frame-in-requires
 frame-in-requires c κs =
-    let g = open-good (c .before .before .before .before .before .before .before .before .before .args .block .now) (c .before .before .before .before .before .before .read-table .ensures) (c .before .before .before .before .if1 .left) in
+    let read-table = c .before .before .before .before .before .before .read-table in
+    let if1 = c .before .before .before .before .if1 in
+    let if2 = c .before .if2 in
+    let g = open-good (c .before .before .before .before .before .before .before .before .before .args .block .now) (read-table .ensures)
+    (if1 .left) in
     record {
       is = g .is;
-      there = c .before .if2 .left;
+      there = if2 .left;
       few = g .small;
       specs-long = g .specs-long;
       lens-long = g .lens-long;
-      start = g .starts-are _ (c .before .if2 .left);
+      start = g .starts-are _ (if2 .left);
     }
 
 same-length : tie.Need-same-length

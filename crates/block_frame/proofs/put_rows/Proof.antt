@@ -33,24 +33,31 @@ cast-put-number c = omega (arith, c .shared-slice-known3 .given (c .before .befo
 
 put-number-requires : tie.Need-put-number-requires Inv-loop μ-loop
 put-number-requires c κs =
+    let loop = c .before .before .before .loop in
     let a = c .before .before .before .before .before .before .before in
     let h = c .before .before .before .loop .inv in
-    let e = rows-length (a .args .specs .now) (a .args .lens .now) (a .args .n) (c .before .before .before .loop .i) (a .pre .0 .0) (a .pre .0 .1) (c .before .before .loop-test .taken) in
+    let e = rows-length (a .args .specs .now) (a .args .lens .now) (a .args .n) (loop .i) (a .pre .0 .0) (a .pre .0 .1)
+    (c .before .before .loop-test .taken) in
     omega (arith, a .pre .1)
 
 mul-put-number-2 : tie.Need-mul-put-number-2 Inv-loop μ-loop
-mul-put-number-2 c = omega (arith, c .before .before .before .before .before .before .before .before .before .before .before .pre, c .before .before .before .before .before .before .before .before .before .before .before .good)
+mul-put-number-2 c =
+    let s = c .before .before .before .before .before .before .before .before .before .before .before in
+    omega (arith, s .pre, s .good)
 
 shared-slice-read-put-number-2 : tie.Need-shared-slice-read-put-number-2 Inv-loop μ-loop
 shared-slice-read-put-number-2 c = omega arith
 
 put-number-requires-2 : tie.Need-put-number-requires-2 Inv-loop μ-loop
 put-number-requires-2 c κs =
+    let loop = c .before .before .before .before .before .before .before .before .loop in
+    let loop-test = c .before .before .before .before .before .before .before .loop-test in
+    let put-number = c .before .before .before .before .put-number in
     let a = c .before .before .before .before .before .before .before .before .before .before .before .before in
     let h = c .before .before .before .before .before .before .before .before .loop .inv in
     let u = c .before .before .before .before .put-number .ensures .after in
-    let e = rows-length (a .args .specs .now) (a .args .lens .now) (a .args .n) (c .before .before .before .before .before .before .before .before .loop .i) (a .pre .0 .0) (a .pre .0 .1) (c .before .before .before .before .before .before .before .loop-test .taken) in
-    omega (arith, a .pre .1, c .before .before .before .before .put-number .kept .0)
+    let e = rows-length (a .args .specs .now) (a .args .lens .now) (a .args .n) (loop .i) (a .pre .0 .0) (a .pre .0 .1) (loop-test .taken) in
+    omega (arith, a .pre .1, put-number .kept .0)
 
 add-i : tie.Need-add-i Inv-loop μ-loop
 add-i c = omega arith
@@ -60,16 +67,18 @@ loop-less c = omega arith
 
 loop-again : tie.Need-loop-again Inv-loop μ-loop
 loop-again c =
+    let put-number = c .before .before .before .before .before .before .before .put-number in
+    let put-number2 = c .before .before .put-number2 in
     let a = c .before .before .before .before .before .before .before .before .before .before .before .before .before .before .before in
     let i = c .before .before .before .before .before .before .before .before .before .before .before .loop .i in
     let h = c .before .before .before .before .before .before .before .before .before .before .before .loop .inv in
     let t = c .before .before .before .before .before .before .before .before .before .before .loop-test .taken in
-    let u = put-two (c .before .before .before .before .before .before .before .put-number .ensures) (c .before .before .put-number2 .ensures) in
+    let u = put-two (put-number .ensures) (put-number2 .ensures) in
     let u₁ = c .before .before .before .before .before .before .before .put-number .ensures .after in
     let u₂ = c .before .before .put-number2 .ensures .after in
     let e = rows-length (a .args .specs .now) (a .args .lens .now) (a .args .n) i (a .pre .0 .0) (a .pre .0 .1) t in
     let r = rows-next (a .args .specs .now) (a .args .lens .now) (a .args .n) i (a .pre .0 .0) (a .pre .0 .1) t in
-    (omega arith, c .before .before .put-number2 .kept .0 ∙ c .before .before .before .before .before .before .before .put-number .kept .0 ∙ h .1, omega arith, h .3 ∙ put-part _ _ r u)
+    (omega arith, put-number2 .kept .0 ∙ put-number .kept .0 ∙ h .1, omega arith, h .3 ∙ put-part _ _ r u)
 
 same-length : tie.Need-same-length Inv-loop μ-loop
 same-length c = c .before .loop .inv .1

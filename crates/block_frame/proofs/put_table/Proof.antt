@@ -13,17 +13,27 @@ put-number-requires c κs =
 
 put-rows-requires : tie.Need-put-rows-requires
 put-rows-requires c κs =
+    let put-number = c .before .before .before .put-number in
     let a = c .before .before .before .before .before .before .before .before in
-    let u = c .before .before .before .put-number .ensures .after in
-    (a .pre .0, omega (arith, table-length (a .args .specs .now) (a .args .lens .now) (a .args .n) (a .pre .0 .0), a .pre .1, c .before .before .before .put-number .kept .0))
+    let u = c .before .before .before .put-number .ensures .after in (
+      a .pre .0,
+      omega (
+        arith,
+        table-length (a .args .specs .now) (a .args .lens .now) (a .args .n) (a .pre .0 .0),
+        a .pre .1,
+        put-number .kept .0,
+      ),
+    )
 
 same-length : tie.Need-same-length
 same-length c = search needs
 
 returns : tie.Need-returns
 returns c =
+    let put-number = c .before .before .before .before .before .before .put-number in
     let a = c .before .before .before .before .before .before .before .before .before .before .before in
-    put-as (table-parts (a .args .specs .now) (a .args .lens .now) (a .args .n) (a .pre .0 .0)) (put-two (c .before .before .before .before .before .before .put-number .ensures) (c .before .before .put-rows .ensures))
+    put-as (table-parts (a .args .specs .now) (a .args .lens .now) (a .args .n) (a .pre .0 .0))
+    (put-two (put-number .ensures) (c .before .before .put-rows .ensures))
 
 pub put-table-spec : {M : Type 1} → statement M
 put-table-spec = tie.close (tie.spec put-number-requires put-rows-requires same-length returns)

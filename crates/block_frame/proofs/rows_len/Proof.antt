@@ -42,13 +42,15 @@ len-u64-requires-2 c κs = search needs
 
 add-k : tie.Need-add-k Inv-loop μ-loop
 add-k c =
+    let loop = c .before .before .before .before .before .loop in
     let a = c .before .before .before .before .before .before .before .before .args in
-    omega (arith, u64-short (getD (a .specs .now) (c .before .before .before .before .before .loop .i) 0), u64-short (getD (a .lens .now) (c .before .before .before .before .before .loop .i) 0))
+    omega (arith, u64-short (getD (a .specs .now) (loop .i) 0), u64-short (getD (a .lens .now) (loop .i) 0))
 
 add-k-2 : tie.Need-add-k-2 Inv-loop μ-loop
 add-k-2 c =
+    let loop = c .before .before .before .before .before .loop in
     let a = c .before .before .before .before .before .before .before .before .args in
-    omega (arith, u64-short (getD (a .specs .now) (c .before .before .before .before .before .loop .i) 0), u64-short (getD (a .lens .now) (c .before .before .before .before .before .loop .i) 0))
+    omega (arith, u64-short (getD (a .specs .now) (loop .i) 0), u64-short (getD (a .lens .now) (loop .i) 0))
 
 add-i : tie.Need-add-i Inv-loop μ-loop
 add-i c = omega arith
@@ -58,12 +60,13 @@ loop-less c = omega arith
 
 loop-again : tie.Need-loop-again Inv-loop μ-loop
 loop-again c =
+    let loop-test = c .before .before .before .before .loop-test in
     let a = c .before .before .before .before .before .before .before .before in
     let i = c .before .before .before .before .before .loop .i in
     let h = c .before .before .before .before .before .loop .inv in
     let s = u64-short (getD (a .args .specs .now) i 0) in
     let l = u64-short (getD (a .args .lens .now) i 0) in
-    let e = rows-length (a .args .specs .now) (a .args .lens .now) (a .args .n) i (a .pre .1) (a .pre .2) (c .before .before .before .before .loop-test .taken) in
+    let e = rows-length (a .args .specs .now) (a .args .lens .now) (a .args .n) i (a .pre .1) (a .pre .2) (loop-test .taken) in
     (omega arith, omega arith, h .2 ∙ omega arith)
 
 returns : tie.Need-returns Inv-loop μ-loop

@@ -29,7 +29,11 @@ enum-known-next : tie.Need-enum-known-next Inv-loop μ-loop
 enum-known-next c = search needs
 
 loop-less : tie.Need-loop-less Inv-loop μ-loop
-loop-less c = let h = turned _ _ _ (via stepOf (c .before .before .before .turn-at .ensures) (c .before .next .given .1)) in omega (arith, h .ahead, c .before .before .before .before .loop-test .taken)
+loop-less c =
+    let loop-test = c .before .before .before .before .loop-test in
+    let turn-at = c .before .before .before .turn-at in
+    let h = turned _ _ _ (via stepOf (turn-at .ensures) (c .before .next .given .1)) in
+    omega (arith, h .ahead, loop-test .taken)
 
 loop-again : tie.Need-loop-again Inv-loop μ-loop
 loop-again c =
@@ -41,7 +45,10 @@ enum-known-n : tie.Need-enum-known-n Inv-loop μ-loop
 enum-known-n c = search needs
 
 returns : tie.Need-returns Inv-loop μ-loop
-returns c = sym (owes-trace _ ∙ c .before .before .before .before .before .loop .inv .2 ∙ owes-off (turns _) _ _ _ (via stepOf (c .before .before .before .turn-at .ensures) (c .before .n .given .1)))
+returns c =
+    let loop = c .before .before .before .before .before .loop in
+    let turn-at = c .before .before .before .turn-at in
+    sym (owes-trace _ ∙ loop .inv .2 ∙ owes-off (turns _) _ _ _ (via stepOf (turn-at .ensures) (c .before .n .given .1)))
 
 returns-2 : tie.Need-returns-2 Inv-loop μ-loop
 returns-2 c = sym (owes-trace _ ∙ c .before .loop .inv .2 ∙ owes-end _ _ (c .loop-test .left))

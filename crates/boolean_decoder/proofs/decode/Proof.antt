@@ -26,12 +26,17 @@ same-length c = search needs
 
 returns : tie.Need-returns
 returns c =
-    let e = via answerOf (c .before .before .before .before .before .before .before .before .count .ensures) (c .before .before .before .before .before .before .n .given .1) in
+    let count = c .before .before .before .before .before .before .before .before .count in
+    let n = c .before .before .before .before .before .before .n in
+    let if1 = c .before .before .before .before .if1 in
+    let e = via answerOf (count .ensures) (n .given .1) in
     let w = c .before .before .fill .ensures in
-    decode-done _ _ _ _ _ e (omega (arith, c .before .before .before .before .if1 .taken)) (w .1) (w .0)
+    decode-done _ _ _ _ _ e (omega (arith, if1 .taken)) (w .1) (w .0)
 
 returns-2 : tie.Need-returns-2
-returns-2 c = decode-short _ _ _ (via answerOf (c .before .before .before .before .count .ensures) (c .before .before .n .given .1)) (omega (arith, c .if1 .left))
+returns-2 c =
+    let count = c .before .before .before .before .count in
+    decode-short _ _ _ (via answerOf (count .ensures) (c .before .before .n .given .1)) (omega (arith, c .if1 .left))
 
 returns-3 : tie.Need-returns-3
 returns-3 c = decode-fault _ _ _ _ (via answerOf (c .before .before .before .count .ensures) (c .before .n2 .given .1))

@@ -27,16 +27,27 @@ enum-known-next : tie.Need-enum-known-next Inv-loop μ-loop
 enum-known-next c = search needs
 
 fill-same-requires : tie.Need-fill-same-requires Inv-loop μ-loop
-fill-same-requires c κs = owing-room _ _ _ _ (c .before .before .before .before .before .before .loop .inv .1) _ (via stepOf (c .before .before .before .before .turn-at .ensures) (c .before .before .next .given .1))
+fill-same-requires c κs =
+    let loop = c .before .before .before .before .before .before .loop in
+    let turn-at = c .before .before .before .before .turn-at in
+    owing-room _ _ _ _ (loop .inv .1) _ (via stepOf (turn-at .ensures) (c .before .before .next .given .1))
 
 loop-less : tie.Need-loop-less Inv-loop μ-loop
-loop-less c = let h = turned _ _ _ (via stepOf (c .before .before .before .before .before .before .before .turn-at .ensures) (c .before .before .before .before .before .next .given .1)) in omega (arith, h .ahead, c .before .before .before .before .before .before .before .before .loop-test .taken)
+loop-less c =
+    let loop-test = c .before .before .before .before .before .before .before .before .loop-test in
+    let turn-at = c .before .before .before .before .before .before .before .turn-at in
+    let next = c .before .before .before .before .before .next in
+    let h = turned _ _ _ (via stepOf (turn-at .ensures) (next .given .1)) in
+    omega (arith, h .ahead, loop-test .taken)
 
 loop-again : tie.Need-loop-again Inv-loop μ-loop
 loop-again c =
-    let e = via stepOf (c .before .before .before .before .before .before .before .turn-at .ensures) (c .before .before .before .before .before .next .given .1) in
+    let loop = c .before .before .before .before .before .before .before .before .before .loop in
+    let turn-at = c .before .before .before .before .before .before .before .turn-at in
+    let next = c .before .before .before .before .before .next in
+    let e = via stepOf (turn-at .ensures) (next .given .1) in
     let h = turned _ _ _ e in
-    (omega (arith, h .other), owing-on _ _ _ _ (c .before .before .before .before .before .before .before .before .before .loop .inv .1) _ _ e (c .before .before .fill-same .ensures))
+    (omega (arith, h .other), owing-on _ _ _ _ (loop .inv .1) _ _ e (c .before .before .fill-same .ensures))
 
 enum-known-n : tie.Need-enum-known-n Inv-loop μ-loop
 enum-known-n c = search needs
@@ -45,7 +56,10 @@ same-length : tie.Need-same-length Inv-loop μ-loop
 same-length c = c .before .before .before .before .before .loop .inv .1 .same-v
 
 returns : tie.Need-returns Inv-loop μ-loop
-returns c = owing-off _ _ _ _ (c .before .before .before .before .before .loop .inv .1) _ _ (via stepOf (c .before .before .before .turn-at .ensures) (c .before .n .given .1))
+returns c =
+    let loop = c .before .before .before .before .before .loop in
+    let turn-at = c .before .before .before .turn-at in
+    owing-off _ _ _ _ (loop .inv .1) _ _ (via stepOf (turn-at .ensures) (c .before .n .given .1))
 
 same-length-2 : tie.Need-same-length-2 Inv-loop μ-loop
 same-length-2 c = c .before .loop .inv .1 .same-v

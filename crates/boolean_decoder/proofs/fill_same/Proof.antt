@@ -10,7 +10,8 @@ use Rattle.boolean_decoder.proofs.fill_same.Statement.{statement}
 use Rattle.boolean_decoder.proofs.fill_same.Tie as tie
 
 abbrev Inv-loop : tie.InvT-loop
-Inv-loop values₀ from to flag i₀ values i = (i ≤ to) × (length values ≡ length values₀) × (sets values₀ from (replicate (to - from) flag) ≡ sets values i (replicate (to - i) flag))
+Inv-loop values₀ from to flag i₀ values i =
+    (i ≤ to) × (length values ≡ length values₀) × (sets values₀ from (replicate (to - from) flag) ≡ sets values i (replicate (to - i) flag))
 
 abbrev μ-loop : tie.MeasureT-loop
 μ-loop values₀ from to flag i₀ values i = to - i

@@ -21,10 +21,16 @@ enum-known-n : tie.Need-enum-known-n
 enum-known-n c = search needs
 
 returns : tie.Need-returns
-returns c = c .counted-at .ensures ∙ sym (next-eq (turn-read _ _ _ (c .before .before .before .before .before .before .pre .0) (via u64Of (c .before .before .before .before .leb128-u64 .ensures) (c .before .before .c .given .1))))
+returns c =
+    let leb128-u64 = c .before .before .before .before .leb128-u64 in
+    c .counted-at .ensures ∙ sym (next-eq (turn-read _ _ _ (c .before .before .before .before .before .before .pre .0)
+    (via u64Of (leb128-u64 .ensures) (c .before .before .c .given .1))))
 
 returns-2 : tie.Need-returns-2
-returns-2 c = sym (next-eq (turn-read _ _ _ (c .before .before .before .before .before .pre .0) (via u64Of (c .before .before .before .leb128-u64 .ensures) (c .before .n .given .1)) ∙ counted-bad _ _ _))
+returns-2 c =
+    let leb128-u64 = c .before .before .before .leb128-u64 in
+    sym (next-eq (turn-read _ _ _ (c .before .before .before .before .before .pre .0) (via u64Of (leb128-u64 .ensures) (c .before .n .given .1))
+    ∙ counted-bad _ _ _))
 
 pub turn-at-spec : {M : Type 1} → statement M
 turn-at-spec =

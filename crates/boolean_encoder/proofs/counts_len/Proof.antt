@@ -38,18 +38,23 @@ sub-flag : tie.Need-sub-flag Inv-loop μ-loop
 sub-flag c = let h = c .before .before .before .loop .inv .0 .bit in omega arith
 
 loop-less : tie.Need-loop-less Inv-loop μ-loop
-loop-less c = cut-at _ _ _ _ (c .before .before .before .before .before .pre .0) (c .before .before .before .loop .inv .0) (c .before .before .loop-test .taken) (c .before .turn-end .ensures) .less
+loop-less c =
+    let loop = c .before .before .before .loop in
+    cut-at _ _ _ _ (c .before .before .before .before .before .pre .0) (loop .inv .0) (c .before .before .loop-test .taken)
+    (c .before .turn-end .ensures) .less
 
 loop-again : tie.Need-loop-again Inv-loop μ-loop
 loop-again c =
     let h = c .before .before .before .loop .inv in
-    let k = cut-at _ _ _ _ (c .before .before .before .before .before .pre .0) (h .0) (c .before .before .loop-test .taken) (c .before .turn-end .ensures) in
+    let k = cut-at _ _ _ _ (c .before .before .before .before .before .pre .0) (h .0) (c .before .before .loop-test .taken)
+    (c .before .turn-end .ensures) in
     (k .stood, omega (arith, h .1, k .size, c .len-u64 .ensures))
 
 returns : tie.Need-returns Inv-loop μ-loop
 returns c =
+    let loop = c .before .loop in
     let h = c .before .loop .inv .1 in
-    omega (arith, ap length (bytes-end (c .before .before .before .args .values .now) (c .before .loop .i) (c .before .loop .flag) (c .loop-test .left)))
+    omega (arith, ap length (bytes-end (c .before .before .before .args .values .now) (loop .i) (loop .flag) (c .loop-test .left)))
 
 pub counts-len-spec : {M : Type 1} → statement M
 counts-len-spec =

@@ -16,7 +16,9 @@ enum-known-n c = search needs
 
 put-counts-requires : tie.Need-put-counts-requires
 put-counts-requires c κs =
-    let e = sized-is _ _ _ (via answerOf (c .before .before .before .before .before .encoded-len .ensures) (c .before .before .before .n .given .1)) in
+    let encoded-len = c .before .before .before .before .before .encoded-len in
+    let n = c .before .before .before .n in
+    let e = sized-is _ _ _ (via answerOf (encoded-len .ensures) (n .given .1)) in
     (judged-flags _ _ _ (e .1 .1), omega (arith, e .0, c .before .if1 .taken))
 
 enum-known-n-2 : tie.Need-enum-known-n-2
@@ -27,11 +29,16 @@ same-length c = search needs
 
 returns : tie.Need-returns
 returns c =
-    let e = via answerOf (c .before .before .before .before .before .before .before .before .encoded-len .ensures) (c .before .before .before .before .before .before .n .given .1) in
-    encode-done _ _ _ _ _ e (omega (arith, c .before .before .before .before .if1 .taken)) (c .before .before .put-counts .ensures)
+    let encoded-len = c .before .before .before .before .before .before .before .before .encoded-len in
+    let n = c .before .before .before .before .before .before .n in
+    let if1 = c .before .before .before .before .if1 in
+    let e = via answerOf (encoded-len .ensures) (n .given .1) in
+    encode-done _ _ _ _ _ e (omega (arith, if1 .taken)) (c .before .before .put-counts .ensures)
 
 returns-2 : tie.Need-returns-2
-returns-2 c = encode-short _ _ _ _ (via answerOf (c .before .before .before .before .encoded-len .ensures) (c .before .before .n .given .1)) (omega (arith, c .if1 .left))
+returns-2 c =
+    let encoded-len = c .before .before .before .before .encoded-len in
+    encode-short _ _ _ _ (via answerOf (encoded-len .ensures) (c .before .before .n .given .1)) (omega (arith, c .if1 .left))
 
 returns-3 : tie.Need-returns-3
 returns-3 c = encode-refused _ _ _ _ _ (via answerOf (c .before .before .before .encoded-len .ensures) (c .before .n2 .given .1))

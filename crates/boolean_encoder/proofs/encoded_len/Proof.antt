@@ -22,7 +22,9 @@ enum-known-n : tie.Need-enum-known-n
 enum-known-n c = search needs
 
 returns : tie.Need-returns
-returns c = sized-done _ _ _ _ (via answerOf (c .before .before .before .judge-list .ensures) (c .before .enum-told .given .1)) (c .counts-len .ensures)
+returns c =
+    let judge-list = c .before .before .before .judge-list in
+    sized-done _ _ _ _ (via answerOf (judge-list .ensures) (c .before .enum-told .given .1)) (c .counts-len .ensures)
 
 returns-2 : tie.Need-returns-2
 returns-2 c = sized-refused _ _ _ _ (via answerOf (c .before .before .before .judge-list .ensures) (c .before .n .given .1))

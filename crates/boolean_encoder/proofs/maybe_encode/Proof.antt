@@ -14,7 +14,9 @@ nothing-len-requires : tie.Need-nothing-len-requires
 nothing-len-requires c κs = search needs
 
 returns : tie.Need-returns
-returns c = encoded-as (sym (all-false _ (sym (c .before .before .any-present .ensures) ∙ not-true _ (c .before .if1 .taken)))) (encoded-nothing (c .nothing-len .ensures))
+returns c =
+    encoded-as (sym (all-false _ (sym (c .before .before .any-present .ensures) ∙ not-true _ (c .before .if1 .taken))))
+    (encoded-nothing (c .nothing-len .ensures))
 
 encode-requires : tie.Need-encode-requires
 encode-requires c κs = search needs
@@ -23,7 +25,10 @@ same-length : tie.Need-same-length
 same-length c = search needs
 
 returns-2 : tie.Need-returns-2
-returns-2 c = encoded-as (sym (some-true _ (sym (c .before .before .before .before .before .any-present .ensures) ∙ not-false _ (c .before .before .before .before .if1 .left)))) (c .before .before .encode .ensures)
+returns-2 c =
+    let any-present = c .before .before .before .before .before .any-present in
+    let if1 = c .before .before .before .before .if1 in
+    encoded-as (sym (some-true _ (sym (any-present .ensures) ∙ not-false _ (if1 .left)))) (c .before .before .encode .ensures)
 
 pub maybe-encode-spec : {M : Type 1} → statement M
 maybe-encode-spec =

@@ -35,19 +35,28 @@ sub-put-number c = let e = c .before .turn-end .ensures in omega arith
 put-number-requires : tie.Need-put-number-requires Inv-loop μ-loop
 put-number-requires c κs =
     let h = c .before .before .before .loop .inv in
-    let k = cut-at _ _ _ _ (c .before .before .before .before .before .before .pre .0) (h .0) (c .before .before .loop-test .taken) (c .before .turn-end .ensures) in
+    let k = cut-at _ _ _ _ (c .before .before .before .before .before .before .pre .0) (h .0) (c .before .before .loop-test .taken)
+    (c .before .turn-end .ensures) in
     omega (arith, h .1, h .2, k .size)
 
 sub-flag : tie.Need-sub-flag Inv-loop μ-loop
 sub-flag c = let h = c .before .before .before .before .before .before .loop .inv .0 .bit in omega arith
 
 loop-less : tie.Need-loop-less Inv-loop μ-loop
-loop-less c = cut-at _ _ _ _ (c .before .before .before .before .before .before .before .before .before .pre .0) (c .before .before .before .before .before .before .loop .inv .0) (c .before .before .before .before .before .loop-test .taken) (c .before .before .before .before .turn-end .ensures) .less
+loop-less c =
+    let loop = c .before .before .before .before .before .before .loop in
+    let loop-test = c .before .before .before .before .before .loop-test in
+    let turn-end = c .before .before .before .before .turn-end in
+    cut-at _ _ _ _ (c .before .before .before .before .before .before .before .before .before .pre .0) (loop .inv .0) (loop-test .taken)
+    (turn-end .ensures) .less
 
 loop-again : tie.Need-loop-again Inv-loop μ-loop
 loop-again c =
+    let loop-test = c .before .before .before .before .before .loop-test in
+    let turn-end = c .before .before .before .before .turn-end in
     let h = c .before .before .before .before .before .before .loop .inv in
-    let k = cut-at _ _ _ _ (c .before .before .before .before .before .before .before .before .before .pre .0) (h .0) (c .before .before .before .before .before .loop-test .taken) (c .before .before .before .before .turn-end .ensures) in
+    let k = cut-at _ _ _ _ (c .before .before .before .before .before .before .before .before .before .pre .0) (h .0) (loop-test .taken)
+    (turn-end .ensures) in
     let u = c .before .before .put-number .ensures in
     (k .stood, c .before .before .put-number .kept .0 ∙ h .1, omega (arith, h .2, k .size, u .after), h .3 ∙ put-part _ _ (k .bytes) u)
 

@@ -19,13 +19,19 @@ same-length : tie.Need-same-length
 same-length c = search needs
 
 returns : tie.Need-returns
-returns c = placed _ _ _ (c .before .before .before .before .before .before .before .before .pre) _ _ (via writtenOf (c .before .before .before .before .before .put-u64 .ensures .0) (c .before .next .given .1)) (c .before .before .before .before .before .put-u64 .ensures .1)
+returns c =
+    let put-u64 = c .before .before .before .before .before .put-u64 in
+    placed _ _ _ (c .before .before .before .before .before .before .before .before .pre) _ _
+    (via writtenOf (put-u64 .ensures .0) (c .before .next .given .1)) (put-u64 .ensures .1)
 
 same-length-2 : tie.Need-same-length-2
 same-length-2 c = search needs
 
 returns-2 : tie.Need-returns-2
-returns-2 c = absurd (not-refused _ _ _ (c .before .before .before .before .before .before .before .before .pre) _ _ (via writtenOf (c .before .before .before .before .before .put-u64 .ensures .0) (c .before .place .given .1)))
+returns-2 c =
+    let put-u64 = c .before .before .before .before .before .put-u64 in
+    absurd (not-refused _ _ _ (c .before .before .before .before .before .before .before .before .pre) _ _
+    (via writtenOf (put-u64 .ensures .0) (c .before .place .given .1)))
 
 pub put-number-spec : {M : Type 1} → statement M
 put-number-spec =

@@ -27,8 +27,9 @@ shared-slice-read-if1 c = search needs
 
 returns : tie.Need-returns Inv-loop μ-loop
 returns c =
+    let loop = c .before .before .before .loop in
     let a = c .before .before .before .before .args in
-    omega (arith, row-hit (a .spec) (now (a .specs)) (a .n) (c .before .before .before .loop .i) (omega arith) (omega arith) (c .if1 .taken), c .before .before .before .loop .inv .1)
+    omega (arith, row-hit (a .spec) (now (a .specs)) (a .n) (loop .i) (omega arith) (omega arith) (c .if1 .taken), loop .inv .1)
 
 add-i : tie.Need-add-i Inv-loop μ-loop
 add-i c = search needs
@@ -38,8 +39,9 @@ loop-less c = search needs
 
 loop-again : tie.Need-loop-again Inv-loop μ-loop
 loop-again c =
+    let loop = c .before .before .before .loop in
     let a = c .before .before .before .before .args in
-    (omega arith, omega (arith, row-miss (a .spec) (now (a .specs)) (a .n) (c .before .before .before .loop .i) (omega arith) (omega arith) (c .if1 .left), c .before .before .before .loop .inv .1))
+    (omega arith, omega (arith, row-miss (a .spec) (now (a .specs)) (a .n) (loop .i) (omega arith) (omega arith) (c .if1 .left), loop .inv .1))
 
 returns-2 : tie.Need-returns-2 Inv-loop μ-loop
 returns-2 c =

@@ -34,13 +34,17 @@ enum-told : tie.Need-enum-told Inv-loop μ-loop
 enum-told c = search needs
 
 returns-2 : tie.Need-returns-2 Inv-loop μ-loop
-returns-2 c = sym (none _ _ _ (search needs) (c .before .before .before .before .before .loop .inv .1) (c .before .before .with-digit .ensures) (search needs))
+returns-2 c =
+    let loop = c .before .before .before .before .before .loop in
+    sym (none _ _ _ (search needs) (loop .inv .1) (c .before .before .with-digit .ensures) (search needs))
 
 enum-told-2 : tie.Need-enum-told-2 Inv-loop μ-loop
 enum-told-2 c = search needs
 
 returns-3 : tie.Need-returns-3 Inv-loop μ-loop
-returns-3 c = sym (over _ _ _ (search needs) (c .before .before .before .before .before .loop .inv .1) (c .before .before .with-digit .ensures) (search needs))
+returns-3 c =
+    let loop = c .before .before .before .before .before .loop in
+    sym (over _ _ _ (search needs) (loop .inv .1) (c .before .before .with-digit .ensures) (search needs))
 
 add-i : tie.Need-add-i Inv-loop μ-loop
 add-i c = search needs
@@ -49,7 +53,10 @@ loop-less : tie.Need-loop-less Inv-loop μ-loop
 loop-less c = search needs
 
 loop-again : tie.Need-loop-again Inv-loop μ-loop
-loop-again c = (search needs, more _ _ _ (search needs) (c .before .before .before .before .before .before .loop .inv .1) (c .before .before .before .with-digit .ensures) (search needs))
+loop-again c =
+    let loop = c .before .before .before .before .before .before .loop in
+    let with-digit = c .before .before .before .with-digit in
+    (search needs, more _ _ _ (search needs) (loop .inv .1) (with-digit .ensures) (search needs))
 
 returns-4 : tie.Need-returns-4 Inv-loop μ-loop
 returns-4 c = sym (c .before .loop .inv .1 ∙ ends _ (c .before .loop .value) (c .before .loop .i) (omega arith))

@@ -28,7 +28,9 @@ lowered-requires : tie.Need-lowered-requires
 lowered-requires c κs = search needs
 
 returns-2 : tie.Need-returns-2
-returns-2 c = signed-minus (now (c .before .before .before .before .before .before .before .args .s)) _ _ (search needs) (search needs) (c .before .decimal-of .ensures) (c .lowered .ensures)
+returns-2 c =
+    signed-minus (now (c .before .before .before .before .before .before .before .args .s)) _ _ (search needs) (search needs)
+    (c .before .decimal-of .ensures) (c .lowered .ensures)
 
 decimal-of-requires-2 : tie.Need-decimal-of-requires-2
 decimal-of-requires-2 c κs = search needs
@@ -37,7 +39,9 @@ raised-requires : tie.Need-raised-requires
 raised-requires c κs = search needs
 
 returns-3 : tie.Need-returns-3
-returns-3 c = signed-plain (now (c .before .before .before .before .before .before .args .s)) _ _ (search needs) (search needs) (c .before .decimal-of2 .ensures) (c .raised .ensures)
+returns-3 c =
+    signed-plain (now (c .before .before .before .before .before .before .args .s)) _ _ (search needs) (search needs)
+    (c .before .decimal-of2 .ensures) (c .raised .ensures)
 
 pub signed-of-spec : {M : Type 1} → statement M
 signed-of-spec =

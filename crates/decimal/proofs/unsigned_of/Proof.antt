@@ -28,7 +28,9 @@ outside-requires : tie.Need-outside-requires
 outside-requires c κs = search needs
 
 returns-2 : tie.Need-returns-2
-returns-2 c = unsigned-minus (now (c .before .before .before .before .before .before .before .args .s)) _ _ (search needs) (search needs) (c .before .decimal-of .ensures) (c .outside .ensures)
+returns-2 c =
+    unsigned-minus (now (c .before .before .before .before .before .before .before .args .s)) _ _ (search needs) (search needs)
+    (c .before .decimal-of .ensures) (c .outside .ensures)
 
 decimal-of-requires-2 : tie.Need-decimal-of-requires-2
 decimal-of-requires-2 c κs = search needs
@@ -37,7 +39,9 @@ plain-requires : tie.Need-plain-requires
 plain-requires c κs = search needs
 
 returns-3 : tie.Need-returns-3
-returns-3 c = unsigned-plain (now (c .before .before .before .before .before .before .args .s)) _ _ (search needs) (search needs) (c .before .decimal-of2 .ensures) (c .plain .ensures)
+returns-3 c =
+    unsigned-plain (now (c .before .before .before .before .before .before .args .s)) _ _ (search needs) (search needs)
+    (c .before .decimal-of2 .ensures) (c .plain .ensures)
 
 pub unsigned-of-spec : {M : Type 1} → statement M
 unsigned-of-spec =

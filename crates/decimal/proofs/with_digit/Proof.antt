@@ -25,13 +25,17 @@ sub-if4 : tie.Need-sub-if4
 sub-if4 c = search needs
 
 returns-4 : tie.Need-returns-4
-returns-4 c = sym (large (c .before .before .before .before .args .value) (c .before .before .before .before .args .b) (search needs) (search needs) (omega arith))
+returns-4 c =
+    let a = c .before .before .before .before .args in
+    sym (large (a .value) (a .b) (search needs) (search needs) (omega arith))
 
 add-t7 : tie.Need-add-t7
 add-t7 c = search needs
 
 returns-5 : tie.Need-returns-5
-returns-5 c = sym (fits (c .before .before .before .before .args .value) (c .before .before .before .before .args .b) (search needs) (search needs) (omega arith))
+returns-5 c =
+    let a = c .before .before .before .before .args in
+    sym (fits (a .value) (a .b) (search needs) (search needs) (omega arith))
 
 pub with-digit-spec : {M : Type 1} → statement M
 with-digit-spec =

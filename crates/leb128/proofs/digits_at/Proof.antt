@@ -67,7 +67,8 @@ loop-again c =
       omega arith,
       known c .power,
       known c .below,
-      next _ _ (l .low) (l .scale) (l .n) (l .prev) (l .i) (l .inv .3) (omega arith) (c .before .before .if1 .left) (c .before .if2 .left) (c .wide .ensures),
+      next _ _ (l .low) (l .scale) (l .n) (l .prev) (l .i) (l .inv .3) (omega arith)
+          (c .before .before .if1 .left) (c .before .if2 .left) (c .wide .ensures),
     )
 
 returns-3 : tie.Need-returns-3 Inv-loop μ-loop

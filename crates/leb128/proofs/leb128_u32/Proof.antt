@@ -21,11 +21,15 @@ enum-known-r c = search needs
 
 returns : tie.Need-returns
 unfolding u32At
-returns c = rw (← (ap u64Of (sym (c .before .before .v .given .1)) ∙ c .before .before .before .before .leb128-u64 .ensures), le-leb _ _ (c .if1 .taken))
+returns c =
+    let leb128-u64 = c .before .before .before .before .leb128-u64 in
+    rw (← (ap u64Of (sym (c .before .before .v .given .1)) ∙ leb128-u64 .ensures), le-leb _ _ (c .if1 .taken))
 
 returns-2 : tie.Need-returns-2
 unfolding u32At
-returns-2 c = rw (← (ap u64Of (sym (c .before .before .v .given .1)) ∙ c .before .before .before .before .leb128-u64 .ensures), lt-leb _ _ (c .if1 .left))
+returns-2 c =
+    let leb128-u64 = c .before .before .before .before .leb128-u64 in
+    rw (← (ap u64Of (sym (c .before .before .v .given .1)) ∙ leb128-u64 .ensures), lt-leb _ _ (c .if1 .left))
 
 returns-3 : tie.Need-returns-3
 unfolding u32At

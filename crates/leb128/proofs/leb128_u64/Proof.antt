@@ -19,8 +19,9 @@ add-t10 c = search needs
 
 returns : tie.Need-returns
 returns c =
+    let if1 = c .before .before .before .if1 in
     let a = c .before .before .before .before .before .args in
-    ap (λ (v : ℕ). got v (a .at + 1)) (c .wide .ensures) ∙ one-u64 (now (a .s)) (a .at) (c .before .before .before .if1 .taken) (c .before .if2 .taken)
+    ap (λ (v : ℕ). got v (a .at + 1)) (c .wide .ensures) ∙ one-u64 (now (a .s)) (a .at) (if1 .taken) (c .before .if2 .taken)
 
 long-u64-requires : tie.Need-long-u64-requires
 long-u64-requires c κs = search needs

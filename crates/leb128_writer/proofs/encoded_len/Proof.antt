@@ -26,8 +26,16 @@ loop-less c = omega arith
 
 loop-again : tie.Need-loop-again Inv-loop μ-loop
 loop-again c =
-    let l = c .before .loop in
-    (omega arith, λ neg. omega (arith, l .inv .1 neg, ap length (encoded-more (c .before .before .args .limit) neg (l .w) (c .before .before .pre) (c .loop-test .taken) (l .inv .0))))
+    let s = c .before .before in
+    let l = c .before .loop in (
+      omega arith,
+      λ neg. omega (
+        arith,
+        l .inv .1 neg,
+        ap length (encoded-more (s .args .limit) neg (l .w) (s .pre) (c .loop-test .taken)
+            (l .inv .0)),
+      ),
+    )
 
 returns : tie.Need-returns Inv-loop μ-loop
 returns c neg =

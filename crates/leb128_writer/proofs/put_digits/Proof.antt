@@ -32,7 +32,12 @@ left : (c : tie.After-group-of Inv-loop μ-loop) → let l = c .before .before .
 left c =
     let l = c .before .before .loop in
     let a = c .before .before .before .before .args in
-    omega (arith, l .inv .2, ap length (encoded-more (a .limit) (a .neg) (l .w) (c .before .before .before .before .pre .0 .0) (c .before .loop-test .taken) (l .inv .1)))
+    omega (
+      arith,
+      l .inv .2,
+      ap length (encoded-more (a .limit) (a .neg) (l .w) (c .before .before .before .before .pre .0 .0)
+          (c .before .loop-test .taken) (l .inv .1)),
+    )
 
 slice-write-out : tie.Need-slice-write-out Inv-loop μ-loop
 slice-write-out c = omega (arith, left c)
@@ -49,13 +54,15 @@ loop-again c =
       simp length-set (l .inv .0),
       omega arith,
       omega (arith, left c),
-      l .inv .3 ∙ sets-more (l .out) (l .i) _ _ (l .w) _ (c .before .before .before .before .pre .0 .0) (c .before .loop-test .taken) (l .inv .1) (c .group-of .ensures .0),
+      l .inv .3 ∙ sets-more (l .out) (l .i) _ _ (l .w) _
+          (c .before .before .before .before .pre .0 .0) (c .before .loop-test .taken) (l .inv .1) (c .group-of .ensures .0),
     )
 
 group-of-requires-2 : tie.Need-group-of-requires-2 Inv-loop μ-loop
 group-of-requires-2 c κs = omega arith
 
-ended : (c : tie.After-group-of2 Inv-loop μ-loop) → let l = c .before .before .loop in let a = c .before .before .before .before .args in l .i < length (a .out .now)
+ended : (c : tie.After-group-of2 Inv-loop μ-loop)
+    → let l = c .before .before .loop in let a = c .before .before .before .before .args in l .i < length (a .out .now)
 ended c =
     let l = c .before .before .loop in
     let a = c .before .before .before .before .args in
@@ -68,7 +75,9 @@ same-length : tie.Need-same-length Inv-loop μ-loop
 same-length c = simp length-set (c .before .before .loop .inv .0)
 
 returns : tie.Need-returns Inv-loop μ-loop
-returns c = let l = c .before .before .loop in sym (l .inv .3 ∙ sets-last (l .out) (l .i) _ _ (l .w) _ (c .before .loop-test .left) (c .group-of2 .ensures .0))
+returns c =
+    let l = c .before .before .loop in
+    sym (l .inv .3 ∙ sets-last (l .out) (l .i) _ _ (l .w) _ (c .before .loop-test .left) (c .group-of2 .ensures .0))
 
 pub put-digits-spec : {M : Type 1} → statement M
 put-digits-spec =

@@ -30,7 +30,8 @@ returns c =
     let m = c .before .before .before .before .magnitude in
     let t = c .before .before .before .before .before in
     let a = t .before .before in
-    let e : encoded 64 true (m .result) ≡ i64Bytes (a .args .x) = ap (encoded 64 true) (m .ensures .0 ∙ ap mag (toZ-ofZ w64 (a .args .x) (a .fits .x))) ∙ s-neg (a .args .x) (a .fits .x) (t .if1 .taken) in
+    let e : encoded 64 true (m .result) ≡ i64Bytes (a .args .x) = ap (encoded 64 true)
+    (m .ensures .0 ∙ ap mag (toZ-ofZ w64 (a .args .x) (a .fits .x))) ∙ s-neg (a .args .x) (a .fits .x) (t .if1 .taken) in
     rw e at (c .before .before .put-encoded .ensures)
 
 same-length-2 : tie.Need-same-length-2
@@ -41,7 +42,8 @@ returns-2 c =
     let m = c .before .before .before .before .magnitude2 in
     let t = c .before .before .before .before .before in
     let a = t .before .before in
-    let e : encoded 64 false (m .result) ≡ i64Bytes (a .args .x) = ap (encoded 64 false) (m .ensures .0 ∙ ap mag (toZ-ofZ w64 (a .args .x) (a .fits .x))) ∙ s-pos (a .args .x) (a .fits .x) (t .if1 .left) in
+    let e : encoded 64 false (m .result) ≡ i64Bytes (a .args .x) = ap (encoded 64 false)
+    (m .ensures .0 ∙ ap mag (toZ-ofZ w64 (a .args .x) (a .fits .x))) ∙ s-pos (a .args .x) (a .fits .x) (t .if1 .left) in
     rw e at (c .before .before .put-encoded2 .ensures)
 
 pub put-i64-spec : {M : Type 1} → statement M

@@ -56,8 +56,12 @@ refused-requires-3 c κs = search needs
 
 returns-3 : tie.Need-returns-3
 returns-3 c =
-    let e = sym (c .before .before .before .before .before .before .before .before .in-order .ensures) ∙ not-false _ (c .before .before .before .before .before .before .before .if1 .left) in
-    let f = sym (c .before .before .before .before .before .is-plain .ensures) ∙ not-false _ (c .before .before .before .before .if2 .left) in
+    let in-order = c .before .before .before .before .before .before .before .before .in-order in
+    let if1 = c .before .before .before .before .before .before .before .if1 in
+    let is-plain = c .before .before .before .before .before .is-plain in
+    let if2 = c .before .before .before .before .if2 in
+    let e = sym (in-order .ensures) ∙ not-false _ (if1 .left) in
+    let f = sym (is-plain .ensures) ∙ not-false _ (if2 .left) in
     c .refused3 .ensures ∙ ap opened (judged-14 _ _ _ _ e f (is-over _ _ _ (c .before .before .starts-of .ensures) (c .before .if3 .taken)))
 
 refused-requires-4 : tie.Need-refused-requires-4
@@ -65,20 +69,33 @@ refused-requires-4 c κs = search needs
 
 returns-4 : tie.Need-returns-4
 returns-4 c =
-    let e = sym (c .before .before .before .before .before .before .before .before .before .before .in-order .ensures) ∙ not-false _ (c .before .before .before .before .before .before .before .before .before .if1 .left) in
-    let f = sym (c .before .before .before .before .before .before .before .is-plain .ensures) ∙ not-false _ (c .before .before .before .before .before .before .if2 .left) in
-    let w = is-summed _ _ _ (c .before .before .before .before .starts-of .ensures) (c .before .before .before .if3 .left) in
+    let in-order = c .before .before .before .before .before .before .before .before .before .before .in-order in
+    let if1 = c .before .before .before .before .before .before .before .before .before .if1 in
+    let is-plain = c .before .before .before .before .before .before .before .is-plain in
+    let if2 = c .before .before .before .before .before .before .if2 in
+    let starts-of = c .before .before .before .before .starts-of in
+    let if3 = c .before .before .before .if3 in
+    let e = sym (in-order .ensures) ∙ not-false _ (if1 .left) in
+    let f = sym (is-plain .ensures) ∙ not-false _ (if2 .left) in
+    let w = is-summed _ _ _ (starts-of .ensures) (if3 .left) in
     c .refused4 .ensures ∙ ap opened (judged-15 _ _ _ _ e f (omega (arith, w .total-is, c .before .if4 .taken)))
 
 returns-5 : tie.Need-returns-5
 returns-5 c =
+    let in-order = c .before .before .before .before .before .before .before .before .before .before .in-order in
+    let if1 = c .before .before .before .before .before .before .before .before .before .if1 in
+    let is-plain = c .before .before .before .before .before .before .before .is-plain in
+    let if2 = c .before .before .before .before .before .before .if2 in
+    let starts-of = c .before .before .before .before .starts-of in
+    let if3 = c .before .before .before .if3 in
     let s = c .before .before .before .before .before .before .before .before .before .before .before .before .before .before in
     let a = s .args in
-    let e = sym (c .before .before .before .before .before .before .before .before .before .before .in-order .ensures) ∙ not-false _ (c .before .before .before .before .before .before .before .before .before .if1 .left) in
-    let f = sym (c .before .before .before .before .before .before .before .is-plain .ensures) ∙ not-false _ (c .before .before .before .before .before .before .if2 .left) in
-    let w = is-summed _ _ _ (c .before .before .before .before .starts-of .ensures) (c .before .before .before .if3 .left) in
+    let e = sym (in-order .ensures) ∙ not-false _ (if1 .left) in
+    let f = sym (is-plain .ensures) ∙ not-false _ (if2 .left) in
+    let w = is-summed _ _ _ (starts-of .ensures) (if3 .left) in
     let long : length (a .rows .specs) ≡ 64 = search needs in
-    judged-out (a .size) (a .n) (a .rows) _ (omega arith) (s .pre .2) (s .pre .3) (w .starts-are) e f (omega (arith, w .total-is, w .fits, c .before .if4 .left))
+    judged-out (a .size) (a .n) (a .rows) _ (omega arith) (s .pre .2) (s .pre .3) (w .starts-are) e f
+    (omega (arith, w .total-is, w .fits, c .before .if4 .left))
 
 pub judge-spec : {M : Type 1} → statement M
 judge-spec =

@@ -29,7 +29,12 @@ no-rows-requires : tie.Need-no-rows-requires Inv-loop μ-loop
 no-rows-requires c κs = search needs
 
 returns : tie.Need-returns Inv-loop μ-loop
-returns c = c .no-rows .ensures ∙ ap rowsOf (going-bad (c .before .before .before .before .before .before .loop .inv) (c .before .before .before .before .before .loop-test .taken) (via u32Of (c .before .before .before .before .leb128-u32 .ensures) (c .before .before .number .given .1)))
+returns c =
+    let loop = c .before .before .before .before .before .before .loop in
+    let loop-test = c .before .before .before .before .before .loop-test in
+    let leb128-u32 = c .before .before .before .before .leb128-u32 in
+    c .no-rows .ensures ∙ ap rowsOf (going-bad (loop .inv) (loop-test .taken)
+    (via u32Of (leb128-u32 .ensures) (c .before .before .number .given .1)))
 
 enum-known-spec : tie.Need-enum-known-spec Inv-loop μ-loop
 enum-known-spec c = search needs
@@ -45,8 +50,14 @@ no-rows-requires-2 c κs = search needs
 
 returns-2 : tie.Need-returns-2 Inv-loop μ-loop
 returns-2 c =
-    let e = via u32Of (c .before .before .before .before .before .before .before .before .leb128-u32 .ensures) (c .before .before .before .before .before .before .spec .given .1) in
-    c .no-rows2 .ensures ∙ ap rowsOf (going-bad-len (c .before .before .before .before .before .before .before .before .before .before .loop .inv) (c .before .before .before .before .before .before .before .before .before .loop-test .taken) e (via u64Of (c .before .before .before .before .leb128-u64 .ensures) (c .before .before .number2 .given .1)))
+    let loop = c .before .before .before .before .before .before .before .before .before .before .loop in
+    let loop-test = c .before .before .before .before .before .before .before .before .before .loop-test in
+    let leb128-u32 = c .before .before .before .before .before .before .before .before .leb128-u32 in
+    let spec = c .before .before .before .before .before .before .spec in
+    let leb128-u64 = c .before .before .before .before .leb128-u64 in
+    let e = via u32Of (leb128-u32 .ensures) (spec .given .1) in
+    c .no-rows2 .ensures ∙ ap rowsOf (going-bad-len (loop .inv) (loop-test .taken) e
+    (via u64Of (leb128-u64 .ensures) (c .before .before .number2 .given .1)))
 
 enum-known-len : tie.Need-enum-known-len Inv-loop μ-loop
 enum-known-len c = search needs
@@ -71,8 +82,13 @@ loop-less c = search needs
 
 loop-again : tie.Need-loop-again Inv-loop μ-loop
 loop-again c =
-    let e = via u32Of (c .before .before .before .before .before .before .before .leb128-u32 .ensures) (c .before .before .before .before .before .spec .given .1) in
-    going-turn (c .before .before .before .before .before .before .before .before .before .loop .inv) (c .before .before .before .before .before .before .before .before .loop-test .taken) e (omega arith) (via u64Of (c .before .before .before .leb128-u64 .ensures) (c .before .len .given .1))
+    let loop = c .before .before .before .before .before .before .before .before .before .loop in
+    let loop-test = c .before .before .before .before .before .before .before .before .loop-test in
+    let leb128-u32 = c .before .before .before .before .before .before .before .leb128-u32 in
+    let spec = c .before .before .before .before .before .spec in
+    let leb128-u64 = c .before .before .before .leb128-u64 in
+    let e = via u32Of (leb128-u32 .ensures) (spec .given .1) in
+    going-turn (loop .inv) (loop-test .taken) e (omega arith) (via u64Of (leb128-u64 .ensures) (c .before .len .given .1))
 
 returns-3 : tie.Need-returns-3 Inv-loop μ-loop
 returns-3 c = going-out (c .before .loop .inv) (omega arith) (c .loop-test .left)

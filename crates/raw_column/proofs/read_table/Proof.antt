@@ -25,7 +25,10 @@ refused-requires-2 : tie.Need-refused-requires-2
 refused-requires-2 c κs = search needs
 
 returns : tie.Need-returns
-returns c = c .refused2 .ensures ∙ ap opened (table-11 _ (via u64Of (c .before .before .before .before .before .leb128-u64 .ensures) (c .before .before .before .value .given .1)) (c .before .if1 .taken))
+returns c =
+    let leb128-u64 = c .before .before .before .before .before .leb128-u64 in
+    let value = c .before .before .before .value in
+    c .refused2 .ensures ∙ ap opened (table-11 _ (via u64Of (leb128-u64 .ensures) (value .given .1)) (c .before .if1 .taken))
 
 read-rows-requires : tie.Need-read-rows-requires
 read-rows-requires c κs = search needs
@@ -34,18 +37,36 @@ refused-requires-3 : tie.Need-refused-requires-3
 refused-requires-3 c κs = search needs
 
 returns-2 : tie.Need-returns-2
-returns-2 c = c .refused3 .ensures ∙ ap opened (table-rows-bad _ (via u64Of (c .before .before .before .before .before .before .before .before .leb128-u64 .ensures) (c .before .before .before .before .before .before .value .given .1)) (c .before .before .before .before .if1 .left) (c .before .before .before .read-rows .ensures) (c .before .if2 .taken))
+returns-2 c =
+    let leb128-u64 = c .before .before .before .before .before .before .before .before .leb128-u64 in
+    let value = c .before .before .before .before .before .before .value in
+    let if1 = c .before .before .before .before .if1 in
+    let read-rows = c .before .before .before .read-rows in
+    c .refused3 .ensures ∙ ap opened (table-rows-bad _ (via u64Of (leb128-u64 .ensures) (value .given .1)) (if1 .left) (read-rows .ensures)
+    (c .before .if2 .taken))
 
 judge-requires : tie.Need-judge-requires
 judge-requires c κs =
-    let g = rows-good (now (c .before .before .before .before .before .before .before .before .before .args .block)) (via u64Of (c .before .before .before .before .before .before .before .leb128-u64 .ensures) (c .before .before .before .before .before .value .given .1)) (c .before .before .before .if1 .left) (c .before .before .read-rows .ensures) (c .if2 .left) in
-    (c .before .before .before .if1 .left, g .next-in, g .specs-pad, g .lens-pad)
+    let leb128-u64 = c .before .before .before .before .before .before .before .leb128-u64 in
+    let value = c .before .before .before .before .before .value in
+    let if1 = c .before .before .before .if1 in
+    let g = rows-good (now (c .before .before .before .before .before .before .before .before .before .args .block))
+    (via u64Of (leb128-u64 .ensures) (value .given .1)) (if1 .left) (c .before .before .read-rows .ensures) (c .if2 .left) in
+    (if1 .left, g .next-in, g .specs-pad, g .lens-pad)
 
 returns-3 : tie.Need-returns-3
-returns-3 c = c .refused .ensures ∙ ap opened (table-bad _ (via u64Of (c .before .before .before .before .leb128-u64 .ensures) (c .before .before .number .given .1)))
+returns-3 c =
+    let leb128-u64 = c .before .before .before .before .leb128-u64 in
+    c .refused .ensures ∙ ap opened (table-bad _ (via u64Of (leb128-u64 .ensures) (c .before .before .number .given .1)))
 
 returns-4 : tie.Need-returns-4
-returns-4 c = c .judge .ensures ∙ ap opened (table-judged _ (via u64Of (c .before .before .before .before .before .before .before .before .leb128-u64 .ensures) (c .before .before .before .before .before .before .value .given .1)) (c .before .before .before .before .if1 .left) (c .before .before .before .read-rows .ensures) (c .before .if2 .left))
+returns-4 c =
+    let leb128-u64 = c .before .before .before .before .before .before .before .before .leb128-u64 in
+    let value = c .before .before .before .before .before .before .value in
+    let if1 = c .before .before .before .before .if1 in
+    let read-rows = c .before .before .before .read-rows in
+    c .judge .ensures ∙ ap opened (table-judged _ (via u64Of (leb128-u64 .ensures) (value .given .1)) (if1 .left) (read-rows .ensures)
+    (c .before .if2 .left))
 
 pub read-table-spec : {M : Type 1} → statement M
 read-table-spec =

@@ -43,8 +43,11 @@ loop-less : tie.Need-loop-less Inv-loop μ-loop
 loop-less c = search needs
 
 loop-again : tie.Need-loop-again Inv-loop μ-loop
-loop-again c =
-    (search needs, up-turn (pos 0) _ _ _ _ (c .before .before .loop .inv .1) (omega arith) (omega arith) (omega arith) (omega arith) (same _ (sfits-of (c .v .given))))
+loop-again c = (
+  search needs,
+  up-turn (pos 0) _ _ _ _ (c .before .before .loop .inv .1) (omega arith) (omega arith) (omega arith) (omega arith)
+      (same _ (sfits-of (c .v .given))),
+)
 
 same-length : tie.Need-same-length Inv-loop μ-loop
 same-length c = search needs

@@ -29,11 +29,15 @@ same-length c = search needs
 
 returns : tie.Need-returns
 returns c =
+    let if1 = c .before .before .before .before .if1 in
     let f = c .before .before .before .before .before .before .before .before .before .before .before .before .before .before .before in
     let a = f .args in
     let m = c .before .before .before .before .before .before .before .before .before .before .before .move-u64 .ensures in
-    let p = c .before .before .before .before .before .before .before .copy-u64 .ensures in
-    (refl, placed-cleared 0 (now (a .s)) (a .old) (a .start) (a .end) (now (a .new)) (f .pre) m p (c .before .before .before .before .if1 .taken) (c .before .before .clear-u64 .ensures))
+    let p = c .before .before .before .before .before .before .before .copy-u64 .ensures in (
+      refl,
+      placed-cleared 0 (now (a .s)) (a .old) (a .start) (a .end) (now (a .new)) (f .pre) m p (if1 .taken)
+          (c .before .before .clear-u64 .ensures),
+    )
 
 same-length-2 : tie.Need-same-length-2
 same-length-2 c = search needs

@@ -16,14 +16,23 @@ div-if2 : tie.Need-div-if2
 div-if2 c = search needs
 
 mul-result : tie.Need-mul-result
-mul-result c = let a = c .before .before .args in omega (arith, whole (a .row) (a .step) (18446744073709551615 - a .base) (omega arith) (search needs))
+mul-result c =
+    let a = c .before .before .args in
+    omega (arith, whole (a .row) (a .step) (18446744073709551615 - a .base) (omega arith) (search needs))
 
 add-result : tie.Need-add-result
-add-result c = let a = c .before .before .args in omega (arith, whole (a .row) (a .step) (18446744073709551615 - a .base) (omega arith) (search needs))
+add-result c =
+    let a = c .before .before .args in
+    omega (arith, whole (a .row) (a .step) (18446744073709551615 - a .base) (omega arith) (search needs))
 
 returns-2 : tie.Need-returns-2
-returns-2 c = let a = c .before .before .args in
-    omega (arith, depth-fits (a .row) (a .base) (a .step) (omega (arith, whole (a .row) (a .step) (18446744073709551615 - a .base) (omega arith) (search needs))))
+returns-2 c =
+    let a = c .before .before .args in
+    omega (
+      arith,
+      depth-fits (a .row) (a .base) (a .step)
+          (omega (arith, whole (a .row) (a .step) (18446744073709551615 - a .base) (omega arith) (search needs))),
+    )
 
 returns-3 : tie.Need-returns-3
 returns-3 c = let a = c .before .before .args in omega (arith, depth-past (a .row) (a .base) (a .step) (omega arith) (search needs))

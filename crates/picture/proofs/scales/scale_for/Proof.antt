@@ -22,14 +22,29 @@ row-of-requires : tie.Need-row-of-requires
 row-of-requires c κs = search needs
 
 add-t11 : tie.Need-add-t11
-add-t11 c = omega (arith, scale-rows (c .before .before .before .before .before .args .low) (c .before .before .before .before .before .args .high) (c .before .before .before .before .before .args .origin) (c .before .before .before .before .before .args .n) (c .before .before .before .before .before .args .width) _ _ _ _ _ 0 (c .before .before .before .before .per-place .ensures) (c .before .before .before .apart .ensures) (c .before .before .step-for .ensures) (c .before .base-for .ensures) (c .row-of .ensures) (search needs))
+add-t11 c =
+    let a = c .before .before .before .before .before .args in
+    let per-place = c .before .before .before .before .per-place in
+    let apart = c .before .before .before .apart in
+    omega (
+      arith,
+      scale-rows (a .low) (a .high) (a .origin) (a .n) (a .width) _ _ _ _ _ 0 (per-place .ensures) (apart .ensures)
+          (c .before .before .step-for .ensures) (c .before .base-for .ensures) (c .row-of .ensures) (search needs),
+    )
 
 parts-requires : tie.Need-parts-requires
-parts-requires c κs = omega (arith, per-some (c .before .before .before .before .before .args .n) (c .before .before .before .before .before .args .width))
+parts-requires c κs =
+    let a = c .before .before .before .before .before .args in
+    omega (arith, per-some (a .n) (a .width))
 
 returns : tie.Need-returns
-returns c = scale-is (c .before .before .before .before .before .before .args .low) (c .before .before .before .before .before .before .args .high) (c .before .before .before .before .before .before .args .origin) (c .before .before .before .before .before .before .args .n) (c .before .before .before .before .before .before .args .width) _ _ _ _ _ _ (c .before .before .before .before .before .per-place .ensures) (c .before .before .before .before .apart .ensures) (c .before .before .before .step-for .ensures) (c .before .before .base-for .ensures) (c .before .row-of .ensures)
-    (c .parts .ensures)
+returns c =
+    let a = c .before .before .before .before .before .before .args in
+    let per-place = c .before .before .before .before .before .per-place in
+    let apart = c .before .before .before .before .apart in
+    let step-for = c .before .before .before .step-for in
+    scale-is (a .low) (a .high) (a .origin) (a .n) (a .width) _ _ _ _ _ _ (per-place .ensures) (apart .ensures) (step-for .ensures)
+    (c .before .before .base-for .ensures) (c .before .row-of .ensures) (c .parts .ensures)
 
 pub scale-for-spec : {M : Type 1} → statement M
 scale-for-spec =

@@ -40,13 +40,17 @@ mul-result : tie.Need-mul-result Inv-loop μ-loop
 mul-result c = search needs
 
 returns-2 : tie.Need-returns-2 Inv-loop μ-loop
-returns-2 c = omega (arith, step-two (c .before .before .before .before .args .span) _ (c .before .before .before .loop .inv) (search needs) (search needs))
+returns-2 c =
+    let loop = c .before .before .before .loop in
+    omega (arith, step-two (c .before .before .before .before .args .span) _ (loop .inv) (search needs) (search needs))
 
 mul-result-2 : tie.Need-mul-result-2 Inv-loop μ-loop
 mul-result-2 c = search needs
 
 returns-3 : tie.Need-returns-3 Inv-loop μ-loop
-returns-3 c = omega (arith, step-five (c .before .before .before .before .args .span) _ (c .before .before .before .loop .inv) (search needs) (search needs))
+returns-3 c =
+    let loop = c .before .before .before .loop in
+    omega (arith, step-five (c .before .before .before .before .args .span) _ (loop .inv) (search needs) (search needs))
 
 pub step-for-spec : {M : Type 1} → statement M
 step-for-spec =

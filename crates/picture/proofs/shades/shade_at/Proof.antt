@@ -14,7 +14,9 @@ shade-requires : tie.Need-shade-requires
 shade-requires c κs = search needs
 
 returns : tie.Need-returns
-returns c = let a = c .before .before .before .args in shade-is (a .c) (a .row) (a .s) _ _ _ (c .before .before .row-of .ensures) (c .before .row-of2 .ensures) (c .shade .ensures)
+returns c =
+    let a = c .before .before .before .args in
+    shade-is (a .c) (a .row) (a .s) _ _ _ (c .before .before .row-of .ensures) (c .before .row-of2 .ensures) (c .shade .ensures)
 
 pub shade-at-spec : {M : Type 1} → statement M
 shade-at-spec = tie.close (tie.spec row-of-requires row-of-requires-2 shade-requires returns)

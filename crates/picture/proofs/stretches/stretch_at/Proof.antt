@@ -16,8 +16,10 @@ stretch-of-requires : tie.Need-stretch-of-requires
 stretch-of-requires c κs = search needs
 
 returns : tie.Need-returns
-returns c = let a = c .before .before .before .before .before .args in
-    c .stretch-of .ensures ∙ at-place (now (a .values)) (now (a .present)) (a .per) (a .x) (c .before .before .first-of .result) (c .before .end-of .result) (search needs) (search needs)
+returns c =
+    let a = c .before .before .before .before .before .args in
+    c .stretch-of .ensures ∙ at-place (now (a .values)) (now (a .present)) (a .per) (a .x) (c .before .before .first-of .result)
+    (c .before .end-of .result) (search needs) (search needs)
 
 pub stretch-at-spec : {M : Type 1} → statement M
 stretch-at-spec =

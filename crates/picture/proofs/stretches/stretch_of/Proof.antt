@@ -18,19 +18,25 @@ nothing-requires : tie.Need-nothing-requires Inv-loop μ-loop
 nothing-requires c κs = search needs
 
 returns : tie.Need-returns Inv-loop μ-loop
-returns c = c .nothing .ensures ∙ sym (of-short (now (c .before .before .before .before .args .values)) (now (c .before .before .before .before .args .present)) (c .before .before .before .before .args .a) (c .before .before .before .before .args .e) (search needs))
+returns c =
+    let a = c .before .before .before .before .args in
+    c .nothing .ensures ∙ sym (of-short (now (a .values)) (now (a .present)) (a .a) (a .e) (search needs))
 
 nothing-requires-2 : tie.Need-nothing-requires-2 Inv-loop μ-loop
 nothing-requires-2 c κs = search needs
 
 returns-2 : tie.Need-returns-2 Inv-loop μ-loop
-returns-2 c = c .nothing2 .ensures ∙ sym (of-few (now (c .before .before .before .before .before .args .values)) (now (c .before .before .before .before .before .args .present)) (c .before .before .before .before .before .args .a) (c .before .before .before .before .before .args .e) (search needs) (search needs))
+returns-2 c =
+    let a = c .before .before .before .before .before .args in
+    c .nothing2 .ensures ∙ sym (of-few (now (a .values)) (now (a .present)) (a .a) (a .e) (search needs) (search needs))
 
 nothing-requires-3 : tie.Need-nothing-requires-3 Inv-loop μ-loop
 nothing-requires-3 c κs = search needs
 
 loop-holds : tie.Need-loop-holds Inv-loop μ-loop
-loop-holds c = kept-start (now (c .before .before .before .before .before .args .values)) (now (c .before .before .before .before .before .args .present)) (c .before .before .before .before .before .args .a) (c .before .before .before .before .before .args .e) _ (c .nothing3 .ensures)
+loop-holds c =
+    let a = c .before .before .before .before .before .args in
+    kept-start (now (a .values)) (now (a .present)) (a .a) (a .e) _ (c .nothing3 .ensures)
 
 mul-with-reading : tie.Need-mul-with-reading Inv-loop μ-loop
 mul-with-reading c = search needs
@@ -42,7 +48,11 @@ shared-slice-read-with-reading-2 : tie.Need-shared-slice-read-with-reading-2 Inv
 shared-slice-read-with-reading-2 c = search needs
 
 with-reading-requires : tie.Need-with-reading-requires Inv-loop μ-loop
-with-reading-requires c κs = let f = kept-few (now (c .before .before .before .before .before .before .before .before .before .args .values)) (now (c .before .before .before .before .before .before .before .before .before .args .present)) (c .before .before .before .before .before .before .before .before .before .args .a) (c .before .before .before .before .before .before .before .before .before .args .e) _ _ (c .before .before .before .loop .inv) (search needs) in omega arith
+with-reading-requires c κs =
+    let a = c .before .before .before .before .before .before .before .before .before .args in
+    let loop = c .before .before .before .loop in
+    let f = kept-few (now (a .values)) (now (a .present)) (a .a) (a .e) _ _ (loop .inv) (search needs) in
+    omega arith
 
 add-i : tie.Need-add-i Inv-loop μ-loop
 add-i c = search needs
@@ -51,10 +61,16 @@ loop-less : tie.Need-loop-less Inv-loop μ-loop
 loop-less c = search needs
 
 loop-again : tie.Need-loop-again Inv-loop μ-loop
-loop-again c = kept-turn (now (c .before .before .before .before .before .before .before .before .before .before .args .values)) (now (c .before .before .before .before .before .before .before .before .before .before .args .present)) (c .before .before .before .before .before .before .before .before .before .before .args .a) (c .before .before .before .before .before .before .before .before .before .before .args .e) _ _ (c .before .before .before .before .loop .inv) _ (search needs) (search needs) (search needs) (c .with-reading .ensures)
+loop-again c =
+    let a = c .before .before .before .before .before .before .before .before .before .before .args in
+    let loop = c .before .before .before .before .loop in
+    kept-turn (now (a .values)) (now (a .present)) (a .a) (a .e) _ _ (loop .inv) _ (search needs) (search needs) (search needs)
+    (c .with-reading .ensures)
 
 returns-3 : tie.Need-returns-3 Inv-loop μ-loop
-returns-3 c = kept-end (now (c .before .before .before .before .before .before .before .args .values)) (now (c .before .before .before .before .before .before .before .args .present)) (c .before .before .before .before .before .before .before .args .a) (c .before .before .before .before .before .before .before .args .e) _ _ (c .before .loop .inv) (search needs) (search needs) (search needs)
+returns-3 c =
+    let a = c .before .before .before .before .before .before .before .args in
+    kept-end (now (a .values)) (now (a .present)) (a .a) (a .e) _ _ (c .before .loop .inv) (search needs) (search needs) (search needs)
 
 pub stretch-of-spec : {M : Type 1} → statement M
 stretch-of-spec =

@@ -17,8 +17,10 @@ add-t6 : tie.Need-add-t6
 add-t6 c = search needs
 
 returns-2 : tie.Need-returns-2
-returns-2 c = λ xs e.
-    value-more (c .before .before .before .before .before .args .s) (c .before .before .before .before .before .args .value) xs e (c .before .before .least .result) (c .before .greatest .result) (search needs) (search needs) (search needs)
+returns-2 c =
+    let a = c .before .before .before .before .before .args in
+    λ xs e. value-more (a .s) (a .value) xs e (c .before .before .least .result) (c .before .greatest .result) (search needs) (search needs)
+    (search needs)
 
 pub with-value-spec : {M : Type 1} → statement M
 with-value-spec = tie.close (tie.spec returns least-requires greatest-requires add-t6 returns-2)

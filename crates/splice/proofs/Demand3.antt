@@ -1,0 +1,300 @@
+-- DEMAND 3 OF THE CALLS. "An edit of one column depends on nothing inside the others, which keep their bytes; an accepted edit writes the
+-- encoding of the old list with the range replaced." From what the public edits promise (`OptionalSpliced`, `BooleanSpliced`) and what every slice
+-- of the code is (`Lent`): `integer-demand-3`, `delta-demand-3` and `boolean-demand-3`, proved once over the kind of column. Assumes nothing.
+use Prim.Native.Nat.{ℕ, _≤_, _<_}
+use mathlib.Core.Path.{_≡_, refl, sym, ap, _∙_}
+use mathlib.Core.List.{List, []}
+use mathlib.Core.Option.{Option, some}
+use native.Mathlib.Omega.{arith}
+use lib.IntN.{ℤ, pos}
+use lib.ListN.{length, getD, set, take, drop}
+use lib.Seq.{take-at, drop-at}
+use borrow.Author.Tests.{lt-ltb}
+use Rattle.leb128.specs.Answer.{Answer}
+use Rattle.encoding.specs.Walk.{sound}
+use Rattle.encoding.specs.Given.{slotList}
+use Rattle.encoding.proofs.Faults.{Numbered}
+use Rattle.delta_decoder.proofs.Faults.{delta-numbered}
+use Rattle.boolean_decoder.proofs.Faults.{boolean-numbered}
+use Rattle.raw_column.specs.Table.{Tab, tab, faulty, parse}
+use Rattle.column_part.specs.Part.{startOf, partAt, bytesOf}
+use Rattle.block_frame.specs.Columns.{blockBytes, newBlock}
+use Rattle.block_frame.proofs.Blocks.{columnsOf, columns-are, column-is-part}
+use Rattle.slots.specs.Splice.{spliced}
+use Rattle.splice.specs.Kind.{Kind}
+use Rattle.splice.specs.Kinds.{integer, delta, boolean}
+use Rattle.splice.specs.Edit.{Edited, stop, late, accepted, endIn, givenOptional, givenBoolean, editIn, edited}
+use Rattle.splice.specs.Edit.{acceptance, answered, slotsLeft, outLeft}
+use Rattle.splice.specs.Contract.{slotIn, flagIn, itself, OptionalSpliced, BooleanSpliced}
+use Rattle.splice.specs.Lent.{Lent}
+use Rattle.splice.specs.declared.Spliced.{Spliced}
+use Rattle.splice.specs.declared.End.{End}
+use Rattle.splice.proofs.Isolated.{Alike, both-stop, both-late, both-accepted, alike, alike-answer, alike-slots, OnlyElsewhere}
+use Rattle.splice.proofs.Isolated.{accepted-right, Kept, accepted-kept}
+use Rattle.splice.proofs.Numbered.{SomeStop, SomeRefused, optional-some, boolean-some, integer-numbered, edited-some}
+
+-- ---- what the demand speaks of
+
+-- the column at a position, as `column` of `column_part` hands it out
+abbrev pub columnOf : List ℕ → ℕ → List ℕ
+columnOf s j = bytesOf s (partAt s j)
+
+-- the new block: as many bytes of the output as are answered
+abbrev pub blockOf : Spliced → List ℕ → List ℕ
+blockOf r out′ = take (r .len) out′
+
+-- the list that the column at a position reads as, where a range ends in it, and the same list with the range replaced
+abbrev pub oldList : {A : Type 0} → Kind A → List ℕ → ℕ → List A
+oldList K s position = K .reads (columnOf s position) .readings
+
+abbrev pub rangeEnd : {A : Type 0} → Kind A → List ℕ → ℕ → End → ℕ
+rangeEnd K s position end = endIn end (length (oldList K s position))
+
+abbrev pub newList : {A : Type 0} → Kind A → List ℕ → ℕ → ℕ → End → List A → List A
+newList K s position start end new = spliced (oldList K s position) start (rangeEnd K s position end) new
+
+-- the third sentence. The old list was read soundly, and the range lies within it; the new column is the encoding of the new list; the output
+-- begins with the block whose columns are the old ones with that one in its place, and is as it was behind it; and the answer is that block's
+pub record Writes {A : Type 0} (K : Kind A) (s : List ℕ) (position start : ℕ) (end : End) (new : List A) (out out′ : List ℕ) (r : Spliced)
+    : Type 0 where
+  pub specs : List ℕ
+  pub lens : List ℕ
+  pub next : ℕ
+  pub table : parse s ≡ tab specs lens next
+  pub there : position < length specs
+  pub reads : K .reads (columnOf s position) .ending ≡ sound
+  pub ordered : start ≤ rangeEnd K s position end
+  pub within : rangeEnd K s position end ≤ length (oldList K s position)
+  pub column : columnOf (blockOf r out′) position ≡ K .writes (newList K s position start end new)
+  pub block : blockOf r out′ ≡ blockBytes specs (set (columnsOf s) position (K .writes (newList K s position start end new)))
+  pub behind : drop (r .len) out′ ≡ drop (r .len) out
+  pub answer : r ≡ acceptance (blockOf r out′)
+
+-- what the first sentence says of two runs: the same answer, the same left in the slots, and the same new column
+pub record Same {S : Type 0} (position : ℕ) (slots′ slots₂′ : S) (out′ out₂′ : List ℕ) (r r₂ : Spliced) : Type 0 where
+  pub answers : r ≡ r₂
+  pub slots : slots′ ≡ slots₂′
+  pub column : columnOf (blockOf r out′) position ≡ columnOf (blockOf r₂ out₂′) position
+
+-- THE DEMAND, of a run on the block s, with its slots and its output before and after, and its answer r. `Call` is the contract of the edit at one
+-- position and range with one list of new readings: what is left to another run are its block, slots (of a type S), output and answer
+pub record DemandThree {A S : Type 0} (K : Kind A) (position start : ℕ) (end : End) (new : List A)
+    (Call : List ℕ → S → S → List ℕ → List ℕ → Spliced → Type 0) (s : List ℕ) (slots slots′ : S) (out out′ : List ℕ) (r : Spliced) : Type 0 where
+  -- "An edit of one column depends on nothing inside the others,": on a block that differs only inside them, with the same slots and an output
+  -- as long, another run is the same
+  pub depends : (s₂ : List ℕ) (slots₂′ : S) (out₂ out₂′ : List ℕ) (r₂ : Spliced) → OnlyElsewhere s s₂ position → length out₂ ≡ length out
+      → Call s₂ slots slots₂′ out₂ out₂′ r₂ → Same position slots′ slots₂′ out′ out₂′ r r₂
+  -- "which keep their bytes;"
+  pub keeps : r .number ≡ 0 → (j : ℕ) → (j ≡ position → ⊥) → columnOf (blockOf r out′) j ≡ columnOf s j
+  -- "an accepted edit writes the encoding of the old list with the range replaced."
+  pub writes : r .number ≡ 0 → Writes K s position start end new out out′ r
+
+-- ---- an edit that is answered with number 0 is accepted
+
+-- what its answer and output say of it
+record Accepted {A : Type 0} (e : Edited A) (out out′ : List ℕ) (r : Spliced) : Type 0 where
+  old : ℕ
+  xs : List A
+  new : List ℕ
+  is : e ≡ accepted old xs new
+  block : blockOf r out′ ≡ new
+  behind : drop (r .len) out′ ≡ drop (r .len) out
+  answer : r ≡ acceptance new
+
+is-accepted : {A : Type 0} (e : Edited A) (out out′ : List ℕ) (r : Spliced) → SomeStop e → r ≡ answered e → out′ ≡ outLeft e out → r .number ≡ 0
+    → Accepted e out out′ r
+is-accepted (stop number place) out out′ r h a o z = absurd (omega (arith, ap (λ (x : Spliced). x .number) a))
+is-accepted (late number place old xs) out out′ r h a o z = absurd (omega (arith, ap (λ (x : Spliced). x .number) a))
+is-accepted (accepted old xs new) out out′ r h a o z =
+    let l : r .len ≡ length new = ap (λ (x : Spliced). x .len) a in
+    record {
+      old = old;
+      xs = xs;
+      new = new;
+      is = refl;
+      block = ap (take (r .len)) o ∙ take-at new (drop (length new) out) (r .len) (sym l);
+      behind = ap (drop (r .len)) o ∙ drop-at new (drop (length new) out) (r .len) (sym l) ∙ ap (λ (n : ℕ). drop n out) (sym l);
+      answer = a;
+    }
+
+-- ---- the second and third sentence, of one run
+
+part-is : (s specs lens : List ℕ) (next position : ℕ) → parse s ≡ tab specs lens next → position < length specs
+    → columnOf s position ≡ take (getD lens position 0) (drop (startOf lens next position) s)
+unfolding partAt
+part-is s specs lens next position e h = rw (e, lt-ltb position (length specs) h)
+
+record Sound (s : List ℕ) : Type 0 where
+  specs : List ℕ
+  lens : List ℕ
+  next : ℕ
+  is : parse s ≡ tab specs lens next
+
+module _ {A : Type 0} (K : Kind A) (s : List ℕ) (position start : ℕ) (end : End) (given : Answer) (new : List A) (slots : ℕ)
+    (out out′ : List ℕ) (r : Spliced) (a : Accepted (edited K s position start end given new slots (length out)) out out′ r) where
+  has-table : Sound s
+  unfolding edited
+  has-table = go (parse s) refl (a .is)
+    where
+      go : (t : Tab) → parse s ≡ t → editIn K s position start end given new slots (length out) t ≡ accepted (a .old) (a .xs) (a .new) → Sound s
+      go (tab specs lens next) e h = record { specs = specs; lens = lens; next = next; is = e }
+      go (faulty number place) e h = let z : _≡_ {A = ℕ} 0 1 = cc in absurd (omega arith)
+
+  run-kept : Lent s → Lent out
+      → Kept K s (has-table .specs) (has-table .lens) (has-table .next) position start end new (length out) (K .writes (a .xs)) (a .new)
+  run-kept p q =
+      let t = has-table in
+      accepted-kept K s (t .specs) (t .lens) (t .next) position start end new (length out) slots given (a .old) (a .xs) (a .new)
+      (p .short) (q .short) (t .is) (a .is)
+
+  run-keeps : Lent s → Lent out → (j : ℕ) → (j ≡ position → ⊥) → columnOf (blockOf r out′) j ≡ columnOf s j
+  run-keeps p q j d = ap (λ (b : List ℕ). columnOf b j) (a .block) ∙ run-kept p q .others j d
+
+  run-writes : Lent s → Lent out → Writes K s position start end new out out′ r
+  unfolding newBlock
+  run-writes p q =
+      let t = has-table in
+      let w =
+      accepted-right K s (t .specs) (t .lens) (t .next) position start end new (length out) slots given (a .old) (a .xs) (a .new) (t .is) (a .is) in
+      let c : columnOf s position ≡ take (getD (t .lens) position 0) (drop (startOf (t .lens) (t .next) position) s) =
+      part-is s (t .specs) (t .lens) (t .next) position (t .is) (w .served) in
+      let n : length (oldList K s position) ≡ a .old = ap (λ (x : List ℕ). length (K .reads x .readings)) c ∙ sym (w .size) in
+      let l : a .xs ≡ newList K s position start end new =
+      w .list
+      ∙ ap (λ (x : List ℕ). spliced (K .reads x .readings) start (endIn end (a .old)) new) (sym c)
+      ∙ ap (λ (k : ℕ). spliced (oldList K s position) start (endIn end k) new) (sym n) in
+      record {
+        specs = t .specs;
+        lens = t .lens;
+        next = t .next;
+        table = t .is;
+        there = w .served;
+        reads = ap (λ (x : List ℕ). K .reads x .ending) c ∙ w .sound;
+        ordered = rw n (w .ordered);
+        within = rw n (w .within);
+        column = ap (λ (b : List ℕ). columnOf b position) (a .block) ∙ run-kept p q .chosen ∙ ap (K .writes) l;
+        block =
+            a .block ∙ w .block-is
+            ∙ ap (λ (x : List (List ℕ)). blockBytes (t .specs) (set x position (K .writes (a .xs))))
+            (sym (columns-are s (t .specs) (t .lens) (t .next) (t .is)))
+            ∙ ap (λ (x : List A). blockBytes (t .specs) (set (columnsOf s) position (K .writes x))) l;
+        behind = a .behind;
+        answer = a .answer ∙ ap acceptance (sym (a .block));
+      }
+
+-- ---- the first sentence, of two runs
+
+-- what stands at the front of the output
+abbrev frontOf : {A : Type 0} → Edited A → List ℕ
+frontOf (stop number place) = []
+frontOf (late number place old xs) = []
+frontOf (accepted old xs block) = block
+
+front-is : {A : Type 0} (e : Edited A) (out out′ : List ℕ) (r : Spliced) → r ≡ answered e → out′ ≡ outLeft e out → blockOf r out′ ≡ frontOf e
+front-is (stop number place) out out′ r a o = ap (λ (x : Spliced). take (x .len) out′) a
+front-is (late number place old xs) out out′ r a o = ap (λ (x : Spliced). take (x .len) out′) a
+front-is (accepted old xs block) out out′ r a o =
+    ap (λ (x : Spliced). take (x .len) out′) a ∙ ap (take (length block)) o ∙ take-at block (drop (length block) out) (length block) refl
+
+one-column : {A : Type 0} {K : Kind A} {s s₂ specs lens : List ℕ} {position : ℕ} {e e₂ : Edited A} → Alike K s s₂ specs lens position e e₂
+    → columnOf (frontOf e) position ≡ columnOf (frontOf e₂) position
+one-column (both-stop number place) = refl
+one-column (both-late number place old xs) = refl
+one-column {position = position} (both-accepted old xs block block₂ a) =
+    column-is-part block position ∙ a .chosen ∙ sym (column-is-part block₂ position ∙ a .chosen′)
+
+-- ---- in one, over the kind of column: an edit whose answer, slots and output are those of `edited`, its refusals and its count of slots by the
+-- slots that it is lent
+
+module _ {A S : Type 0} (K : Kind A) (numbered : (c : List ℕ) → Numbered (K .reads c .ending)) (position start : ℕ) (end : End) (new : List A)
+    (given : S → Answer) (given-some : (slots : S) → SomeRefused (given slots)) (count : S → ℕ) (left : S → Edited A → S)
+    (one-left : (s s₂ specs lens : List ℕ) (e e₂ : Edited A) (slots : S) → Alike K s s₂ specs lens position e e₂ → left slots e ≡ left slots e₂) where
+  abbrev editOf : List ℕ → S → ℕ → Edited A
+  editOf s slots room = edited K s position start end (given slots) new (count slots) room
+
+  record Run (s : List ℕ) (slots slots′ : S) (out out′ : List ℕ) (r : Spliced) : Type 0 where
+    answer : r ≡ answered (editOf s slots (length out))
+    slots-are : slots′ ≡ left slots (editOf s slots (length out))
+    output : out′ ≡ outLeft (editOf s slots (length out)) out
+
+  module _ (Call : List ℕ → S → S → List ℕ → List ℕ → Spliced → Type 0)
+      (ran : (s : List ℕ) (slots slots′ : S) (out out′ : List ℕ) (r : Spliced) → Call s slots slots′ out out′ r → Run s slots slots′ out out′ r) where
+    demand : (s : List ℕ) (slots slots′ : S) (out out′ : List ℕ) (r : Spliced) → Lent s → Lent out → Call s slots slots′ out out′ r
+        → DemandThree K position start end new Call s slots slots′ out out′ r
+    demand s slots slots′ out out′ r p q c =
+        let R = ran s slots slots′ out out′ r c in
+        let some = edited-some K numbered start end new (count slots) (length out) s position (given slots) (given-some slots) in
+        let took : r .number ≡ 0 → Accepted (editOf s slots (length out)) out out′ r =
+        is-accepted (editOf s slots (length out)) out out′ r some (R .answer) (R .output) in
+        record {
+          depends = λ s₂ slots₂′ out₂ out₂′ r₂ o n c₂. two s₂ slots₂′ out₂ out₂′ r₂ o n R (ran s₂ slots slots₂′ out₂ out₂′ r₂ c₂);
+          keeps = λ z. run-keeps K s position start end (given slots) new (count slots) out out′ r (took z) p q;
+          writes = λ z. run-writes K s position start end (given slots) new (count slots) out out′ r (took z) p q;
+        }
+      where
+        two : (s₂ : List ℕ) (slots₂′ : S) (out₂ out₂′ : List ℕ) (r₂ : Spliced) → OnlyElsewhere s s₂ position → length out₂ ≡ length out
+            → Run s slots slots′ out out′ r → Run s₂ slots slots₂′ out₂ out₂′ r₂ → Same position slots′ slots₂′ out′ out₂′ r r₂
+        two s₂ slots₂′ out₂ out₂′ r₂ o n R R₂ =
+            let e = editOf s slots (length out) in
+            let e₂ = editOf s₂ slots (length out₂) in
+            let k : Alike K s s₂ (o .specs) (o .lens) position e e₂ =
+            rw n (alike K s s₂ position start end (given slots) new (count slots) (length out) o (p .bytes) (p .short) (q .short)) in
+            record {
+              answers = R .answer ∙ alike-answer k ∙ sym (R₂ .answer);
+              slots = R .slots-are ∙ one-left s s₂ (o .specs) (o .lens) e e₂ slots k ∙ sym (R₂ .slots-are);
+              column =
+                  ap (λ (b : List ℕ). columnOf b position) (front-is e out out′ r (R .answer) (R .output))
+                  ∙ one-column k
+                  ∙ sym (ap (λ (b : List ℕ). columnOf b position) (front-is e₂ out₂ out₂′ r₂ (R₂ .answer) (R₂ .output)));
+            }
+
+-- ---- optional readings: the slots are a slice of values and one of presence bytes
+
+-- the contract of an edit at one position, range and list of new readings
+abbrev pub OptionalCall : {A : Type 0} → Kind (Option A) → A → ℕ → ℕ → End → List A → List ℕ
+    → List ℕ → (List A × List ℕ) → (List A × List ℕ) → List ℕ → List ℕ → Spliced → Type 0
+OptionalCall K nought position start end new flags s slots slots′ out out′ r =
+    OptionalSpliced K nought s position start end new flags (slots .0) (slots′ .0) (slots .1) (slots′ .1) out out′ r
+
+-- the demand, of an edit of optional readings
+pub optional-demand-3 : {A : Type 0} (K : Kind (Option A)) → ((c : List ℕ) → Numbered (K .reads c .ending))
+    → (nought : A) (s : List ℕ) (position start : ℕ) (end : End) (new : List A) (flags : List ℕ) (v v′ : List A) (p p′ out out′ : List ℕ)
+    (r : Spliced) → Lent s → Lent out → OptionalSpliced K nought s position start end new flags v v′ p p′ out out′ r
+    → DemandThree K position start end (slotList new flags) (OptionalCall K nought position start end new flags) s (v, p) (v′, p′) out out′ r
+optional-demand-3 {A} K numbered nought s position start end new flags v v′ p p′ out out′ r =
+    demand K numbered position start end (slotList new flags)
+    (λ z. givenOptional (length (z .0)) (length (z .1)) (length new) flags) (λ z. optional-some (length (z .0)) (length (z .1)) (length new) flags)
+    (λ z. length (z .0)) (λ z e. (slotsLeft nought (slotIn nought) e (z .0), slotsLeft 0 flagIn e (z .1)))
+    (λ s s₂ specs lens e e₂ z k. pair (alike-slots nought (slotIn nought) (z .0) k) (alike-slots 0 flagIn (z .1) k))
+    (OptionalCall K nought position start end new flags)
+    (λ s z z′ out out′ r c. record { answer = c .answer; slots-are = pair (c .values) (c .presence); output = c .output })
+    s (v, p) (v′, p′) out out′ r
+  where
+    pair : {x x₂ : List A} {y y₂ : List ℕ} → x ≡ x₂ → y ≡ y₂ → _≡_ {A = List A × List ℕ} (x, y) (x₂, y₂)
+    pair e f = cc
+
+pub integer-demand-3 : (s : List ℕ) (position start : ℕ) (end : End) (new flags v v′ p p′ out out′ : List ℕ) (r : Spliced) → Lent s → Lent out
+    → OptionalSpliced integer 0 s position start end new flags v v′ p p′ out out′ r
+    → DemandThree integer position start end (slotList new flags) (OptionalCall integer 0 position start end new flags) s (v, p) (v′, p′) out out′ r
+integer-demand-3 = optional-demand-3 integer integer-numbered 0
+
+pub delta-demand-3 : (s : List ℕ) (position start : ℕ) (end : End) (new : List ℤ) (flags : List ℕ) (v v′ : List ℤ) (p p′ out out′ : List ℕ)
+    (r : Spliced) → Lent s → Lent out → OptionalSpliced delta (pos 0) s position start end new flags v v′ p p′ out out′ r
+    → DemandThree delta position start end (slotList new flags) (OptionalCall delta (pos 0) position start end new flags) s (v, p) (v′, p′) out out′ r
+delta-demand-3 = optional-demand-3 delta delta-numbered (pos 0)
+
+-- ---- booleans: the slots are one slice
+
+abbrev pub BooleanCall : Kind ℕ → ℕ → ℕ → End → List ℕ → List ℕ → List ℕ → List ℕ → List ℕ → List ℕ → Spliced → Type 0
+BooleanCall K position start end new s v v′ out out′ r = BooleanSpliced K s position start end new v v′ out out′ r
+
+pub boolean-demand-3 : (s : List ℕ) (position start : ℕ) (end : End) (new v v′ out out′ : List ℕ) (r : Spliced) → Lent s → Lent out
+    → BooleanSpliced boolean s position start end new v v′ out out′ r
+    → DemandThree boolean position start end new (BooleanCall boolean position start end new) s v v′ out out′ r
+boolean-demand-3 s position start end new v v′ out out′ r =
+    demand boolean boolean-numbered position start end new
+    (λ z. givenBoolean new) (λ z. boolean-some new) (λ z. length z) (λ z e. slotsLeft 0 itself e z)
+    (λ s s₂ specs lens e e₂ z k. alike-slots 0 itself z k)
+    (BooleanCall boolean position start end new)
+    (λ s z z′ out out′ r c. record { answer = c .answer; slots-are = c .values; output = c .output })
+    s v v′ out out′ r
