@@ -1,4 +1,4 @@
-// The calls splice_boolean and splice_boolean_to_end. What it is lent is room for the inputs.
+// The calls splice_boolean and splice_boolean_to_end. What they are lent is room for the inputs.
 use crate::edits;
 use crate::edits::Aim;
 use crate::fields;

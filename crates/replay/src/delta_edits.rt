@@ -1,4 +1,4 @@
-// The calls splice_delta and splice_delta_to_end. What it is lent is room for the inputs.
+// The calls splice_delta and splice_delta_to_end. What they are lent is room for the inputs.
 use crate::edits;
 use crate::edits::Aim;
 use crate::fields;
@@ -158,7 +158,6 @@ fn lend(
     )
 }
 
-// Edits in the first slots, k and m, into the first n bytes of out, which there are.
 // By the call of the range.
 fn splice(
     aim: Aim,
@@ -194,6 +193,7 @@ fn splice(
     )
 }
 
+// Edits in the first slots, k and m, into the first n bytes of out, which there are.
 fn edit(
     line: &[u8],
     c: Cursor,
