@@ -30,7 +30,7 @@
  *  15  they add up to less                                          0
  *  16  column position not in the table                             0
  *  17  column type not served by the call                           0
- *  18  range end below its start, or start beyond the list          0
+ *  18  range end below its start, or start or end beyond the list   0
  *  19  column id of 2^28 or more                                    0
  *
  * Places inside a column count from the column's first byte. A number due where the bytes have already ended has the length as its place.

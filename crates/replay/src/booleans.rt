@@ -1,4 +1,4 @@
-// The calls of the crate boolean. What they are lent is room for the inputs and for recorded bytes.
+// The calls of the crates boolean_decoder and boolean_encoder. What they are lent is room for the inputs and for recorded bytes.
 use crate::columns;
 use crate::fields;
 use crate::fields::Cursor;

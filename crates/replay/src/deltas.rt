@@ -1,4 +1,4 @@
-// The calls of the crate delta. What they are lent is room for the inputs and for recorded bytes.
+// The calls of the crates delta_decoder and delta_encoder. What they are lent is room for the inputs and for recorded bytes.
 use crate::columns;
 use crate::fields;
 use crate::fields::Cursor;

@@ -1,4 +1,4 @@
-// The calls of the crate splice, and what they share.
+// The calls of the crates rle_range, delta_range and boolean_range, and what they share.
 use crate::boolean_edits;
 use crate::delta_edits;
 use crate::fields;

@@ -1,4 +1,4 @@
-// The calls of the crate rle. What they are lent is room for the inputs and for recorded bytes.
+// The calls of the crates rle_decoder and rle_encoder. What they are lent is room for the inputs and for recorded bytes.
 use crate::columns;
 use crate::fields;
 use crate::fields::Cursor;

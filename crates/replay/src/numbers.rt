@@ -1,4 +1,4 @@
-// The calls of the crate leb128.
+// The calls of the crates leb128 and leb128_writer.
 use crate::fields;
 use crate::fields::Cursor;
 use crate::fields::Taken;

@@ -1,4 +1,4 @@
-// The calls of the crate raw_column. A table's rows are answered as lists, of specifications, starts and lengths.
+// The calls of the crates raw_column, column_part and block_frame. A table's rows are answered as lists, of specifications, starts and lengths.
 ghost use Prim.Native.Nat.{_≤_};
 use crate::fields;
 use crate::fields::Cursor;
