@@ -7,7 +7,9 @@ use Rattle.delta_range.proofs.finish_i64.Statement.{statement}
 use Rattle.delta_range.proofs.finish_i64.Tie as tie
 
 slice-aggregate-write-block-i64 : tie.Need-slice-aggregate-write-block-i64
-slice-aggregate-write-block-i64 c = sym (length-take-le (c .before .before .before .before .args .len) (now (c .before .before .before .before .args .values)) (c .before .before .before .before .pre .1 .0 .0))
+slice-aggregate-write-block-i64 c =
+    let s = c .before .before .before .before in
+    sym (length-take-le (s .args .len) (now (s .args .values)) (s .pre .1 .0 .0))
 
 slice-aggregate-write-block-i64-2 : tie.Need-slice-aggregate-write-block-i64-2
 slice-aggregate-write-block-i64-2 c =
@@ -15,7 +17,9 @@ slice-aggregate-write-block-i64-2 c =
     sym (length-take-le (s .args .len) (now (s .args .present)) (s .pre .1 .0 .1))
 
 write-block-i64-requires : tie.Need-write-block-i64-requires
-write-block-i64-requires c κs = (c .before .before .before .before .before .before .pre .0, c .before .before .before .before .before .before .pre .1 .1)
+write-block-i64-requires c κs =
+    let s = c .before .before .before .before .before .before in
+    (s .pre .0, s .pre .1 .1)
 
 same-length : tie.Need-same-length
 same-length c = search needs

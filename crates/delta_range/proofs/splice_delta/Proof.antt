@@ -20,10 +20,8 @@ enum-known-found c = search needs
 edit-i64-requires : tie.Need-edit-i64-requires
 edit-i64-requires c κs =
     let s = c .before .before .before .before .before .before .before .before .before .before .before in
-    let found = c .before .before .before .before .found in
-    let plan = c .before .before .before .before .before .before .plan in
     let a = s .args in
-    let e = sym (via planOf (plan .ensures) (found .given .1)) in
+    let e = sym (via planOf (c .before .before .before .before .before .before .plan .ensures) (c .before .before .before .before .found .given .1)) in
     optional-ready delta (pos 0) (now (a .block)) (a .position) (a .start) (a .end) (now (a .new)) (now (a .new-present)) (now (a .values)) (now (a .present)) (now (a .out))
     delta-counts e
 
@@ -43,11 +41,14 @@ same-length-3 : tie.Need-same-length-3
 same-length-3 c = search needs
 
 returns : tie.Need-returns
-returns c = c .before .before .before .before .before .edit-i64 .ensures
+returns c =
+    let edit-i64 = c .before .before .before .before .before .edit-i64 in
+    edit-i64 .ensures
 
 returns-2 : tie.Need-returns-2
 returns-2 c =
-    let a = c .before .before .before .before .before .before .before .before .before .args in
+    let s = c .before .before .before .before .before .before .before .before .before in
+    let a = s .args in
     let e = sym (via planOf (c .before .before .before .before .plan .ensures) (c .before .before .n .given .1)) in
     optional-stopped delta (pos 0) (now (a .block)) (a .position) (a .start) (a .end) (now (a .new)) (now (a .new-present)) (now (a .values)) (now (a .present)) (now (a .out))
     delta-counts e (c .refused .ensures)

@@ -17,7 +17,9 @@ slice-aggregate-write-block-u64-2 c =
     sym (length-take-le (s .args .len) (now (s .args .present)) (s .pre .1 .0 .1))
 
 write-block-u64-requires : tie.Need-write-block-u64-requires
-write-block-u64-requires c κs = (c .before .before .before .before .before .before .before .pre .0, c .before .before .before .before .before .before .before .pre .1 .1)
+write-block-u64-requires c κs =
+    let s = c .before .before .before .before .before .before .before in
+    (s .pre .0, s .pre .1 .1)
 
 same-length : tie.Need-same-length
 same-length c = search needs

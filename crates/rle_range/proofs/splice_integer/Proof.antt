@@ -19,10 +19,8 @@ enum-known-found c = search needs
 edit-u64-requires : tie.Need-edit-u64-requires
 edit-u64-requires c κs =
     let s = c .before .before .before .before .before .before .before .before .before .before .before .before .before in
-    let found = c .before .before .before .before .found in
-    let plan = c .before .before .before .before .before .before .plan in
     let a = s .args in
-    let e = sym (via planOf (plan .ensures) (found .given .1)) in
+    let e = sym (via planOf (c .before .before .before .before .before .before .plan .ensures) (c .before .before .before .before .found .given .1)) in
     optional-ready integer 0 (now (a .block)) (a .position) (a .start) (a .end) (now (a .new)) (now (a .new-present)) (now (a .values)) (now (a .present)) (now (a .out))
     integer-counts e
 
@@ -42,14 +40,15 @@ same-length-3 : tie.Need-same-length-3
 same-length-3 c = search needs
 
 returns : tie.Need-returns
-returns c = c .before .before .before .before .before .before .edit-u64 .ensures
+returns c =
+    let edit-u64 = c .before .before .before .before .before .before .edit-u64 in
+    edit-u64 .ensures
 
 returns-2 : tie.Need-returns-2
 returns-2 c =
     let s = c .before .before .before .before .before .before .before .before .before .before .before in
-    let plan = c .before .before .before .before .plan in
     let a = s .args in
-    let e = sym (via planOf (plan .ensures) (c .before .before .n .given .1)) in
+    let e = sym (via planOf (c .before .before .before .before .plan .ensures) (c .before .before .n .given .1)) in
     optional-stopped integer 0 (now (a .block)) (a .position) (a .start) (a .end) (now (a .new)) (now (a .new-present)) (now (a .values)) (now (a .present)) (now (a .out))
     integer-counts e (c .refused .ensures)
 
