@@ -12,7 +12,7 @@
  * ANSWERS are structs by value. `number` is 0 where the call was accepted, and else the refusal's; `place` is the refusal's place and
  * 0 where there is none; every other number of a refusal is 0. Any bytes, lists and ranges may go to any function.
  *
- *   1  the bytes end before a number that is due is complete        its first byte
+ *   1  the bytes end within a number, after one with bit 7 set      its first byte
  *   2  number too large for its type                                its first byte
  *   3  overlong number                                              its first byte
  *   4  zero where nonzero was asked                                 its first byte
@@ -32,8 +32,10 @@
  *  17  column type not served by the call                           0
  *  18  range end below its start, or start or end beyond the list   0
  *  19  column id of 2^28 or more                                    0
+ *  21  no byte where a number is due                                the length, where its first byte would be
  *
- * Places inside a column count from the column's first byte. A number due where the bytes have already ended has the length as its place.
+ * Places inside a column count from the column's first byte. A copy that ends between two numbers gets 21, one that ends within a number 1;
+ * but a column whose bytes end where a run would begin is whole.
  *
  * WHAT IS LEFT BEHIND: on success an output holds the result at its front and is otherwise unchanged; decoded readings fill the first
  * slots, the rest unchanged. A refusal changes neither, but for an edit that is refused with 7 or 10 (see there).
@@ -132,14 +134,14 @@ typedef struct {
 
 /* ---- Numbers ---- */
 
-/* The number at position `at` of s. Refusals: 1, 2, 3. A position at or past the end is 1, its place the length. */
+/* The number at position `at` of s. Refusals: 1, 2, 3, 21. A position at or past the end is 21, its place the length. */
 grundavok_number_u64 grundavok_leb128_u64(const uint8_t *s, size_t s_len, size_t at);
 grundavok_number_i64 grundavok_leb128_i64(const uint8_t *s, size_t s_len, size_t at);
 
-/* Read as a uint64_t first, then judged for 2. Refusals: 1, 2, 3. */
+/* Read as a uint64_t first, then judged for 2. Refusals: 1, 2, 3, 21. */
 grundavok_number_u32 grundavok_leb128_u32(const uint8_t *s, size_t s_len, size_t at);
 
-/* Refusals: 1, 2, 3, 4. */
+/* Refusals: 1, 2, 3, 4, 21. */
 grundavok_number_u64 grundavok_nonzero_leb128_u64(const uint8_t *s, size_t s_len, size_t at);
 
 /* How many bytes the number takes, 1 to 10. No refusal. */
@@ -168,13 +170,13 @@ uint32_t grundavok_spec_normalize(uint32_t spec);
 
 /* ---- Columns: rle holds optional uint64_t (Actor, Integer), delta optional int64_t, boolean bytes of 1 or 0 ---- */
 
-/* How many readings the column s has. Refusals: the column's first fault, 1, 2, 3 or 5; of delta 6 too. */
+/* How many readings the column s has. Refusals: the column's first fault, 1, 2, 3, 5 or 21; of delta 6 too, of boolean no 21. */
 grundavok_counted grundavok_rle_count(const uint8_t *s, size_t s_len);
 grundavok_counted grundavok_delta_count(const uint8_t *s, size_t s_len);
 grundavok_counted grundavok_boolean_count(const uint8_t *s, size_t s_len);
 
 /* The column's readings into the first slots; count is how many. Refusals, in this order: 8 for the two lengths, the column's first
- * fault (1, 2, 3, 5; of delta 6 too), 9. A refusal leaves every slot as it was. */
+ * fault (as for the count), 9. A refusal leaves every slot as it was. */
 grundavok_counted grundavok_rle_decode(const uint8_t *s, size_t s_len, uint64_t *values, size_t values_len, uint8_t *present,
                                        size_t present_len);
 grundavok_counted grundavok_delta_decode(const uint8_t *s, size_t s_len, int64_t *values, size_t values_len, uint8_t *present,
@@ -200,7 +202,7 @@ grundavok_counted grundavok_boolean_maybe_encode(const uint8_t *values, size_t v
 
 /* ---- Tables: a block is a table followed directly by its column data and nothing more ---- */
 
-/* Refusals ("table faults"): 1, 2, 3 and 11 left to right, 11 as soon as the count is read; then 12, 13, 14, 15. */
+/* Refusals ("table faults"): 1, 2, 3, 21 and 11 left to right, 11 as soon as the count is read; then 12, 13, 14, 15. */
 grundavok_opened grundavok_read_table(const uint8_t *block, size_t block_len);
 
 /* Where the column at a position lies: the bytes block + start, len. Refusals: table faults, 16. */
@@ -218,7 +220,7 @@ grundavok_frame grundavok_put_frame(const uint8_t *block, size_t block_len, size
 /* The readings from start up to end of the column at a position replaced by the new ones; the calls with _to_end take all readings from start
  * on. The whole new block is written to the front of out. Served: integer Actor and Integer columns, delta DeltaInteger, boolean Boolean.
  * Refusals, in this order: table faults; 16; 17; 18 for end below start; 8 (the lengths of new_values and new_present, or of values and
- * present; a byte above 1); the column's first fault (1, 2, 3, 5; of delta 6 too); 18 for start or end beyond the list; 5 for the result; 9
+ * present; a byte above 1); the column's first fault (as for its count); 18 for start or end beyond the list; 5 for the result; 9
  * where slots are fewer than the longer of old and new list; 7 (delta alone); 10.
  * On success, and on 7 or 10, the slots hold the new list, then absent zeros (booleans: 0) up to the old list's length where that was
  * longer, the rest unchanged. Any other refusal changes no slot. No refusal changes out. */

@@ -22,11 +22,11 @@ pub fn encode_maybe(list: &[bool]) -> Vec<u8> {
 }
 
 pub fn decode(column: &[u8], most: usize) -> Result<Vec<bool>, Refusal> {
-    readings(BooleanDecoder::from(column), most)
+    readings(column, BooleanDecoder::from(column), most)
 }
 
 pub fn decode_maybe(column: &[u8], most: usize) -> Result<Vec<Option<bool>>, Refusal> {
-    readings(MaybeBooleanDecoder::from(column), most)
+    readings(column, MaybeBooleanDecoder::from(column), most)
 }
 
 /// The column with the values from `start` up to `end` replaced: the crate's own splice of these columns is not in the

@@ -13,7 +13,8 @@ pub fn encode(list: &[Option<i64>]) -> Vec<u8> {
 }
 
 pub fn decode(column: &[u8], most: usize) -> Result<Vec<Option<i64>>, Refusal> {
-    readings(DeltaRange::from(0..column.len()).decoder(column), most)
+    let decoder = DeltaRange::from(0..column.len()).decoder(column);
+    readings(column, decoder, most)
 }
 
 /// Do the sums stay within i64 up to the column's first fault? Where they do not, `decode` panics.
@@ -40,7 +41,7 @@ pub fn splice(
     let new = new.iter().map(|reading| Ok::<_, Infallible>(*reading));
     match DeltaRange::from(0..column.len()).splice(column, start..end, new, &mut out) {
         Ok(_) => Ok(out),
-        Err(SpliceError::ReadExisting(e)) => Err(column_refusal(&e)),
+        Err(SpliceError::ReadExisting(e)) => Err(column_refusal(column, &e)),
         Err(SpliceError::ReadReplace(e)) => match e {},
     }
 }

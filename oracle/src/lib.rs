@@ -13,20 +13,21 @@ pub mod table;
 
 use columnar::encoding::{raw, DecodeError};
 
-/// A refusal's number in document 01. The Rust has no places.
+/// A refusal's number in documents 01 and 02. The Rust has no places.
 pub type Refusal = u8;
 
 /// No number of document 01: the list is longer than the caller asked for.
 pub const TOO_MANY: Refusal = 200;
 
-/// At most `most` readings, or the number of the first fault.
+/// At most `most` readings of a column, or the number of the first fault.
 fn readings<T>(
+    column: &[u8],
     decoder: impl Iterator<Item = Result<T, raw::Error>>,
     most: usize,
 ) -> Result<Vec<T>, Refusal> {
     let mut list = vec![];
     for reading in decoder {
-        list.push(reading.map_err(|e| column_refusal(&e))?);
+        list.push(reading.map_err(|e| column_refusal(column, &e))?);
         if list.len() > most {
             return Err(TOO_MANY);
         }
@@ -34,11 +35,11 @@ fn readings<T>(
     Ok(list)
 }
 
-fn column_refusal(error: &raw::Error) -> Refusal {
+fn column_refusal(column: &[u8], error: &raw::Error) -> Refusal {
     match error {
         raw::Error::Decode(DecodeError::Strict(e)) => numbers::refusal(e),
         raw::Error::Decode(DecodeError::Ended)
         | raw::Error::BufferSizeDidNotChange
-        | raw::Error::TryingToReadPastEnd => 1,
+        | raw::Error::TryingToReadPastEnd => numbers::ended(column),
     }
 }

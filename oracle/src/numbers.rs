@@ -13,8 +13,17 @@ fn read<T>(
 ) -> Reading {
     match reader(Input::new(bytes)) {
         Ok((rest, value)) => Ok((bits(value), bytes.len() - rest.unconsumed_bytes().len())),
-        Err(ParseError::Incomplete(_)) => Err(1),
+        Err(ParseError::Incomplete(_)) => Err(ended(bytes)),
         Err(ParseError::Error(e)) => Err(refusal(&e)),
+    }
+}
+
+/// Document 02, [8]: where the crate says that the bytes end, they end within a number (1), behind a byte with bit 7 set, or
+/// where a number is due (21). The crate has one error for both; the last byte tells them apart.
+pub(crate) fn ended(bytes: &[u8]) -> Refusal {
+    match bytes.last() {
+        Some(0x80..) => 1,
+        _ => 21,
     }
 }
 

@@ -14,7 +14,7 @@ pub fn encode(list: &[Option<u64>]) -> Vec<u8> {
 }
 
 pub fn decode(column: &[u8], most: usize) -> Result<Vec<Option<u64>>, Refusal> {
-    readings(RleDecoder::<u64>::from(column), most)
+    readings(column, RleDecoder::<u64>::from(column), most)
 }
 
 /// The column with the readings from `start` up to `end` replaced: the crate's own splice of these columns is not in the

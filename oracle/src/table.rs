@@ -49,7 +49,7 @@ pub fn rewrite(bytes: &[u8]) -> Result<Vec<u8>, Refusal> {
 fn columns(bytes: &[u8]) -> Result<(usize, RawColumns<compression::Unknown>), Refusal> {
     match RawColumns::parse::<raw_column::ParseError>(Input::new(bytes)) {
         Ok((rest, columns)) => Ok((bytes.len() - rest.unconsumed_bytes().len(), columns)),
-        Err(ParseError::Incomplete(_)) => Err(1),
+        Err(ParseError::Incomplete(_)) => Err(numbers::ended(bytes)),
         Err(ParseError::Error(raw_column::ParseError::Leb128(e))) => Err(numbers::refusal(&e)),
         Err(ParseError::Error(raw_column::ParseError::NotInNormalOrder)) => Err(12),
         Err(ParseError::Error(raw_column::ParseError::Deflate(_))) => {

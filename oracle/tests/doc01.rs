@@ -147,6 +147,29 @@ fn the_rle_reader_on_every_column_of_few_bytes() {
     );
 }
 
+/// Document 02, [8]: the crate has one error for bytes that end, and the last of them says which of the two refusals it is.
+#[test]
+fn bytes_end_within_a_number_or_where_one_is_due() {
+    for due in [&[0x00][..], &[0x02], &[0x7e, 0x05], &[0x02, 0x05, 0x00]] {
+        let within = [due, &[0x80]].concat();
+        assert_eq!(rle::decode(due, 10), Err(21));
+        assert_eq!(rle::decode(&within, 10), Err(1));
+        assert_eq!(delta::decode(due, 10), Err(21));
+        assert_eq!(delta::decode(&within, 10), Err(1));
+    }
+    // a run's first number is not due: bytes that end there end the column
+    assert_eq!(rle::decode(&[], 10), Ok(vec![]));
+    assert_eq!(boolean::decode(&[0x01], 10), Ok(vec![false]));
+    assert_eq!(boolean::decode(&[0x01, 0x80], 10), Err(1));
+    for read in [leb128_u64, leb128_i64] {
+        assert_eq!((read(&[]), read(&[0x80])), (Err(21), Err(1)));
+    }
+    for due in [&[][..], &[0x01], &[0x01, 0x12], &[0x02, 0x12, 0x00]] {
+        assert_eq!(table::parse(due), Err(21));
+        assert_eq!(table::parse(&[due, &[0x80]].concat()), Err(1));
+    }
+}
+
 #[test]
 fn a_splice_is_the_list_before_the_new_readings_and_the_list_behind() {
     let reading = |from: [Option<i64>; 3]| move |&kind: &usize| from[kind];

@@ -14,7 +14,7 @@ fn huge_counts_are_read_one_reading_at_a_time() {
 #[test]
 fn a_count_of_single_values_that_passes_the_limit_is_not_refused() {
     // -2^32, and no value
-    assert_eq!(rle::decode(&[0x80, 0x80, 0x80, 0x80, 0x70], 3), Err(1));
+    assert_eq!(rle::decode(&[0x80, 0x80, 0x80, 0x80, 0x70], 3), Err(21));
 }
 
 #[test]

@@ -5,11 +5,12 @@
 static void rle_reading(void) {
     COUNTED(grundavok_rle_count(SLICE(0x7f, 0x01, 0x02, 0x02)), 0, 0, 3); /* E6 */
     COUNTED(grundavok_rle_count(SLICE(0x00, 0x03)), 0, 0, 3);             /* E8 */
-    COUNTED(grundavok_rle_count(SLICE(0x02)), 1, 1, 0);                   /* E12 */
+    COUNTED(grundavok_rle_count(SLICE(0x02)), 21, 1, 0);                  /* E12 */
+    COUNTED(grundavok_rle_count(SLICE(0x02, 0x80)), 1, 1, 0);
     COUNTED(grundavok_rle_count(SLICE(0x00, 0x80, 0x80, 0x80, 0x80, 0x10)), 5, 1, 0);
     uint64_t values[6] = {OLD, OLD, OLD, OLD, OLD, OLD};
     uint8_t present[6] = {OLD, OLD, OLD, OLD, OLD, OLD};
-    COUNTED(grundavok_rle_decode(SLICE(0x7d, 0x01, 0x02), ALL(values), ALL(present)), 1, 3, 0); /* cut: three due, two there */
+    COUNTED(grundavok_rle_decode(SLICE(0x7d, 0x01, 0x02), ALL(values), ALL(present)), 21, 3, 0); /* cut: three due, two there */
     COUNTED(grundavok_rle_decode(SLICE(0x00, 0x07), ALL(values), ALL(present)), 9, 0, 0);
     COUNTED(grundavok_rle_decode(SLICE(0x02), values, 6, present, 5), 8, 0, 0);
     LEFT(uint64_t, values, OLD, OLD, OLD, OLD, OLD, OLD);

@@ -4,6 +4,8 @@
 #define DEPTHS SLICE(0x01, 0x13, 0x05, 0x7f, 0xd0, 0x00, 0x02, 0x00)
 #define TWO SLICE(0x02, 0x12, 0x02, 0x13, 0x02, 0x02, 0x05, 0x7f, 0x05)
 #define FLAGS SLICE(0x01, 0x14, 0x03, 0x00, 0x01, 0x02)
+/* An Integer column of two bytes. */
+#define CUT(a, b) SLICE(0x01, 0x12, 0x02, a, b)
 
 static const grundavok_table none;
 
@@ -58,6 +60,8 @@ static void integer_refused(void) {
     SPLICED(grundavok_splice_integer(TWO, 0, 2, 2, ALL(new_values), SLICE(1, 1), ALL(values), ALL(present), ALL(out)), 9, 0, 0, &none);
     SPLICED(grundavok_splice_integer_to_end(TWO, 0, 3, ALL(new_values), SLICE(1, 1), ALL(values), ALL(present), ALL(out)), 18, 0, 0, &none);
     SPLICED(grundavok_splice_integer_to_end(TWO, 1, 0, ALL(new_values), SLICE(1, 1), ALL(values), ALL(present), ALL(out)), 17, 0, 0, &none);
+    SPLICED(grundavok_splice_integer_to_end(CUT(0x7e, 0x05), 0, 0, ALL(new_values), SLICE(1, 1), ALL(values), ALL(present), ALL(out)), 21, 2, 0, &none);
+    SPLICED(grundavok_splice_integer_to_end(CUT(0x7f, 0x85), 0, 0, ALL(new_values), SLICE(1, 1), ALL(values), ALL(present), ALL(out)), 1, 1, 0, &none);
     LEFT(uint64_t, values, OLD, OLD);
     LEFT(uint8_t, present, OLD, OLD);
     LEFT(uint8_t, out, OLD, OLD, OLD);

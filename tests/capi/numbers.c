@@ -8,7 +8,7 @@ static void reading(void) {
     U64(grundavok_leb128_u64(SLICE(NINE(0xff), 0x02), 0), 2, 0, 0, 0);
     U64(grundavok_leb128_u64(SLICE(NINE(0xff), 0x01), 0), 0, 0, UINT64_MAX, 10); /* E3 */
     U64(grundavok_leb128_u64(SLICE(0x05, 0x80), 1), 1, 1, 0, 0);
-    U64(grundavok_leb128_u64(SLICE(0x05, 0x80), 9), 1, 2, 0, 0);
+    U64(grundavok_leb128_u64(SLICE(0x05, 0x80), 9), 21, 2, 0, 0);
     I64(grundavok_leb128_i64(SLICE(0xc0, 0x00), 0), 0, 0, 64, 2); /* E4 */
     I64(grundavok_leb128_i64(SLICE(0x07, 0x40), 1), 0, 0, -64, 2);
     I64(grundavok_leb128_i64(SLICE(NINE(0x80), 0x7f), 0), 0, 0, INT64_MIN, 10); /* E5 */

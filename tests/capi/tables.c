@@ -10,7 +10,8 @@ static const grundavok_table keys = {.specs = {0x13, 0x102}, .rows = 2};
 static void reading(void) {
     OPENED(grundavok_read_table(TWO), 0, 0, 5, &two);
     OPENED(grundavok_read_table(SLICE(0x02, 0x13, 0x00, 0x82, 0x02, 0x00)), 0, 0, 6, &keys);
-    OPENED(grundavok_read_table(SLICE(0x02, 0x12)), 1, 2, 0, &none);
+    OPENED(grundavok_read_table(SLICE(0x02, 0x12)), 21, 2, 0, &none);
+    OPENED(grundavok_read_table(SLICE(0x02, 0x92)), 1, 1, 0, &none);
     OPENED(grundavok_read_table(SLICE(0x41)), 11, 0, 0, &none);
     OPENED(grundavok_read_table(SLICE(0x02, 0x92, 0x02, 0x00, 0x13, 0x00)), 12, 0, 0, &none);
     OPENED(grundavok_read_table(SLICE(0x01, 0x1b, 0x00)), 13, 0, 0, &none);

@@ -10,22 +10,22 @@ fn wrote(r: raw::Counted) -> Result<usize, Refusal> {
     judged(r.number, r.place, length(r.count))
 }
 
-/// Refusals: 1, 2, 3.
+/// Refusals: 1, 2, 3, 21.
 pub fn leb128_u64(s: &[u8], at: usize) -> Result<(u64, usize), Refusal> {
     read(unsafe { raw::grundavok_leb128_u64(s.as_ptr(), s.len(), at) })
 }
 
-/// Refusals: 1, 2, 3.
+/// Refusals: 1, 2, 3, 21.
 pub fn leb128_i64(s: &[u8], at: usize) -> Result<(i64, usize), Refusal> {
     read(unsafe { raw::grundavok_leb128_i64(s.as_ptr(), s.len(), at) })
 }
 
-/// Refusals: 1, 2, 3.
+/// Refusals: 1, 2, 3, 21.
 pub fn leb128_u32(s: &[u8], at: usize) -> Result<(u32, usize), Refusal> {
     read(unsafe { raw::grundavok_leb128_u32(s.as_ptr(), s.len(), at) })
 }
 
-/// Refusals: 1, 2, 3, 4.
+/// Refusals: 1, 2, 3, 4, 21.
 pub fn nonzero_leb128_u64(s: &[u8], at: usize) -> Result<(u64, usize), Refusal> {
     read(unsafe { raw::grundavok_nonzero_leb128_u64(s.as_ptr(), s.len(), at) })
 }

@@ -1,6 +1,6 @@
 //! Safe Rust over the boundary of Grundavok (`include/grundavok.h`): slices in, lists out, names as in the crate automerge.
 //!
-//! Any bytes, lists and ranges may go to any function. What is refused gets a [`Refusal`], the number and the place of document 01.
+//! Any bytes, lists and ranges may go to any function. What is refused gets a [`Refusal`], the number and the place of documents 01 and 02.
 
 pub mod boolean;
 pub mod column_specification;

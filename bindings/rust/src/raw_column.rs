@@ -30,7 +30,7 @@ fn part(block: &[u8], r: raw::Part) -> Result<&[u8], Refusal> {
     judged(r.number, r.place, &block[r.start..r.start + r.len])
 }
 
-/// The rows, and where the data behind the table begin. Refusals: 1, 2, 3, 11, then 12, 13, 14, 15.
+/// The rows, and where the data behind the table begin. Refusals: 1, 2, 3, 21 and 11, then 12, 13, 14, 15.
 pub fn read_table(block: &[u8]) -> Result<(Vec<Row>, usize), Refusal> {
     let r = unsafe { raw::grundavok_read_table(block.as_ptr(), block.len()) };
     judged(r.number, r.place, (rows(&r.table), r.start))

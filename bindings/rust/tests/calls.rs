@@ -25,7 +25,8 @@ mod calls {
     fn numbers() {
         assert_eq!(leb128::leb128_u64(&[0x80, 0x01], 0), Ok((128, 2)));
         assert_eq!(leb128::leb128_u64(&[0x80, 0x00], 0), refused(3, 0));
-        assert_eq!(leb128::leb128_u64(&[], 0), refused(1, 0));
+        assert_eq!(leb128::leb128_u64(&[], 0), refused(21, 0));
+        assert_eq!(leb128::leb128_u64(&[0x05, 0x80], 1), refused(1, 1));
         assert_eq!(leb128::leb128_i64(&[0x07, 0x40], 1), Ok((-64, 2)));
         assert_eq!(leb128::leb128_u32(&[0x80, 0x80, 0x80, 0x80, 0x10], 0), refused(2, 0));
         assert_eq!(leb128::nonzero_leb128_u64(&[0x05, 0x00], 1), refused(4, 1));
@@ -55,8 +56,9 @@ mod calls {
             rle::decode(&[0x00, 0x02, 0x03, 0x05]),
             Ok(vec![None, None, Some(5), Some(5), Some(5)])
         );
-        assert_eq!(rle::decode(&[0x7d, 0x01, 0x02]), refused(1, 3));
-        assert_eq!(rle::count(&[0x02]), refused(1, 1));
+        assert_eq!(rle::decode(&[0x7d, 0x01, 0x02]), refused(21, 3));
+        assert_eq!(rle::decode(&[0x7d, 0x01, 0x82]), refused(1, 2));
+        assert_eq!(rle::count(&[0x02]), refused(21, 1));
         assert_eq!(rle::encode(&[Some(1), Some(2), Some(2)]), Ok(vec![0x7f, 0x01, 0x02, 0x02]));
         assert_eq!(rle::encode(&[None, None]), Ok(vec![]));
         assert_eq!(

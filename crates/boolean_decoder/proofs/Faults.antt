@@ -7,7 +7,7 @@ use lib.Dec.{ltb, leb}
 use lib.ListN.{length}
 use Rattle.leb128.specs.Got.{Got, got, bad}
 use Rattle.leb128.specs.Read.{u64At}
-use Rattle.leb128.proofs.Faults.{u64-fault}
+use Rattle.leb128.proofs.Refusals.{u64-fault}
 use Rattle.encoding.specs.Limit.{limit}
 use Rattle.encoding.specs.Walk.{Run}
 use Rattle.encoding.proofs.Lists.{cond-by}

@@ -4,7 +4,7 @@ use mathlib.Core.Option.{Option, none, some}
 use Prim.Native.Nat.{ℕ}
 use native.Mathlib.Omega.{arith}
 use lib.IntN.{ℤ, pos}
-use Rattle.leb128.proofs.Faults.{i64-fault}
+use Rattle.leb128.proofs.Refusals.{i64-fault}
 use Rattle.encoding.specs.Walk.{Ending, Trace}
 use Rattle.encoding.specs.Column.{Reading, absent, present, trace}
 use Rattle.encoding.proofs.Faults.{Numbered, trace-numbered}

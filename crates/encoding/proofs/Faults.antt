@@ -8,7 +8,7 @@ use lib.IntN.{ℤ, pos, negsuc}
 use lib.ListN.{length}
 use Rattle.leb128.specs.Got.{Got, got, bad}
 use Rattle.leb128.specs.Read.{u64At, i64At}
-use Rattle.leb128.proofs.Faults.{u64-fault, i64-fault}
+use Rattle.leb128.proofs.Refusals.{u64-fault, i64-fault}
 use Rattle.encoding.specs.Limit.{limit}
 use Rattle.encoding.specs.Walk.{Ending, sound, fault, Run, Next, over, on, off, Trace, walk, after}
 use Rattle.encoding.specs.Element.{Element}

@@ -1,8 +1,8 @@
 pub mod Back
 pub mod Encoded
-pub mod Faults
 pub mod Laws
 pub mod Only
+pub mod Refusals
 pub mod Scanning
 pub mod Short
 pub mod Sound

@@ -1,5 +1,5 @@
 -- The loop of `digits_at`. After n bytes worth low, where the next counts scale times, the digits x are `onto` the rest's digits.
--- A turn keeps that (`next`), and each way out reads the result off it (`final`, `tenth`, `ended`); `room` says that nothing wraps.
+-- A turn keeps that (`next`), and each way out reads the result off it (`final`, `tenth`, `none`, `cut`); `room` says that nothing wraps.
 -- Assumes nothing.
 use mathlib.Core.Path.{_≡_, refl, sym, _∙_}
 use mathlib.Core.List.{List}
@@ -45,8 +45,11 @@ module _ (s : List ℕ) (x : Digits) (low scale n p i : ℕ) (inv : x ≡ onto l
       inv ∙ rw (add-one i, f, drop-cons s i 0 h, le-ltb _ _ b, ne-eqb _ _ e)
       (onto-more low scale n (getD s i 0 - 128) (digits (n + 1) (getD s i 0) (drop (suc i) s)))
 
-  pub ended : length s ≤ i → broken 1 ≡ x
-  ended h = sym (inv ∙ rw (drop-of-length-le s h))
+  pub none : length s ≤ i → n ≡ 0 → broken 21 ≡ x
+  none h e = sym (inv ∙ rw (drop-of-length-le s h, eq-eqb _ _ e))
+
+  pub cut : length s ≤ i → (n ≡ 0 → ⊥) → broken 1 ≡ x
+  cut h e = sym (inv ∙ rw (drop-of-length-le s h, ne-eqb _ _ e))
 
 -- before the tenth byte, n bytes worth low and one more that counts d times: nothing wraps
 pub record Room (low scale n d : ℕ) : Type 0 where

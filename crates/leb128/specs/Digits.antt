@@ -16,9 +16,14 @@ abbrev pub more : ℕ → Digits → Digits
 more d (whole low scale prev last count) = whole (d + 128 * low) (128 * scale) prev last (count + 1)
 more d (broken r) = broken r
 
+-- 02, [8], the refusal where the bytes end behind n of a number's: 1 "stays for bytes that end after one with bit 7 set; nothing at all
+-- where a number is due becomes the new one", 21
+abbrev pub ended : ℕ → ℕ
+ended n = cond (eqb n 0) 21 1
+
 -- the digits of the bytes that stand behind n others, the last of them prev
 abbrev pub digits : ℕ → ℕ → List ℕ → Digits
-digits n prev [] = broken 1
+digits n prev [] = broken (ended n)
 digits n prev (b ∷ bs) =
     let rest = more (b - 128) (digits (n + 1) b bs) in
     cond (ltb b 128) (whole 0 1 prev b 1) (cond (eqb n 9) (broken 2) rest)

@@ -72,6 +72,9 @@ fn digits_at(s: &[u8], at: usize) -> Digits
         n = n + 1;
         i = i + 1;
     }
+    if n == 0 {
+        return Digits::Broken(21);
+    }
     Digits::Broken(1)
 }
 

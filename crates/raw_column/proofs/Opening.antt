@@ -1,4 +1,4 @@
--- Reading a table: that a refusal's number is never 0, what holds at the head of each loop over rows, one law for each way out, and what
+-- Reading a table: what holds at the head of each loop over rows, one law for each way out, and what
 -- an accepted table says of its block. Assumes nothing.
 use mathlib.Core.Path.{_≡_, refl, sym, ap, _∙_}
 use mathlib.Core.List.{List, [], _∷_, _++_, append-assoc, append-nil}
@@ -13,7 +13,7 @@ use lib.Dec.{ltb}
 use borrow.Author.Tests.{ltb-true, ltb-false, lt-ltb, le-ltb}
 use Rattle.leb128.specs.Got.{Got, got, bad}
 use Rattle.leb128.specs.Read.{u64At, u32At}
-use Rattle.leb128.proofs.Faults.{u64-fault, u32-fault}
+use Rattle.leb128.proofs.Refusals.{u64-fault, u32-fault}
 use Rattle.leb128.proofs.Laws.{u64-next}
 use Rattle.column_specification.specs.Key.{key}
 use Rattle.column_specification.specs.Specification.{compressedOf}

@@ -51,7 +51,7 @@ pub record Examples : Type 0 where
   pub e10-written : delta .writes (some (pos 5) ∷ none ∷ some (pos 6) ∷ []) ≡ 0x7f ∷ 0x05 ∷ 0x00 ∷ 0x01 ∷ 0x7f ∷ 0x01 ∷ []
   pub e11 : boolean .reads (0x00 ∷ 0x01 ∷ 0x02 ∷ []) ≡ record { readings = 1 ∷ 0 ∷ 0 ∷ []; ending = Ending.sound }
   pub e11-written : boolean .writes (1 ∷ 0 ∷ 0 ∷ []) ≡ 0x00 ∷ 0x01 ∷ 0x02 ∷ []
-  pub e12 : integer .reads (0x02 ∷ []) ≡ record { readings = []; ending = fault 1 1 }
+  pub e12 : integer .reads (0x02 ∷ []) ≡ record { readings = []; ending = fault 21 1 }
   -- column 0, range 1 to 2, new reading 81, as a value and its presence byte; three slots, and an output of eight bytes
   pub edit :
       optionalEdit delta (0x01 ∷ 0x13 ∷ 0x05 ∷ 0x7f ∷ 0xd0 ∷ 0x00 ∷ 0x02 ∷ 0x00 ∷ []) 0 1 (ending.At 2) (pos 81 ∷ []) (1 ∷ []) 3 3 8

@@ -8,7 +8,7 @@ use native.Mathlib.Omega.{arith}
 use lib.Dec.{ltb, leb, eqb}
 use lib.ListN.{length}
 use Rattle.leb128.specs.Answer.{Answer, done, refused}
-use Rattle.leb128.proofs.Faults.{u64-fault}
+use Rattle.leb128.proofs.Refusals.{u64-fault}
 use Rattle.encoding.specs.Limit.{limit}
 use Rattle.encoding.specs.Walk.{Ending, sound, fault, outcomeOf, outcome}
 use Rattle.encoding.specs.Given.{badFlag}

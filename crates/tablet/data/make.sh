@@ -1,16 +1,19 @@
 #!/bin/sh
 # Makes the sample blocks anew, in this folder:   sh samples/make.sh
-# wedge.block and stroke.block are made by the tool itself. cut.block is what a copy that broke off leaves. In torn.block
-# someone "mended" the table of such a copy: its lengths fit again, and the first column still ends inside a number.
-# refusals/NN.block is a smallest block for refusal NN of document 01.
+# wedge.block and stroke.block are made by the tool itself. cut.block is what a copy that broke off leaves, here inside a number;
+# cut-between.block ends between two numbers of a run, and cut-behind.block behind a run. In torn.block someone "mended" the
+# table of such a copy: its lengths fit again, and the first column still ends inside a number.
+# refusals/NN.block is a small block for refusal NN of documents 01 and 02.
 set -eu
 cd "$(dirname "$0")"
 rm -f wedge.block stroke.block
 ../../../tablet script make.txt
 head -c 55 wedge.block >cut.block
+head -c 54 wedge.block >cut-between.block
+head -c 53 wedge.block >cut-behind.block
 { printf '\003\023\060\044\005\062\006'; tail -c +8 wedge.block | head -c 48; tail -c 11 wedge.block; } >torn.block
 cd refusals
-printf '\003\023\150\044' >01.block
+printf '\003\023\350' >01.block
 printf '\001\062\013\001\377\377\377\377\377\377\377\377\377\002' >02.block
 printf '\001\062\003\001\200\000' >03.block
 printf '\001\062\006\200\200\200\200\020\000' >05.block
@@ -21,3 +24,4 @@ printf '\002\062\000\023\000' >12.block
 printf '\001\033\000' >13.block
 printf '\001\023\000\000' >15.block
 printf '\001\025\000' >17.block
+printf '\003\023\150\044' >21.block

@@ -84,7 +84,7 @@ pub fn place(word: &[u8], what: &[u8], desk: Desk) -> usize {
 }
 
 // A refusal of a file's column, said as a note.
-pub fn say_refused(path: &[u8], position: usize, number: u8, place: usize, len: usize, desk: Desk) {
+pub fn say_refused(path: &[u8], position: usize, number: u8, place: usize, desk: Desk) {
     let p = pen::form(
         files::about(path, desk),
         b"column %: ",
@@ -93,12 +93,12 @@ pub fn say_refused(path: &[u8], position: usize, number: u8, place: usize, len: 
         0,
         0,
     );
-    pen::text(refusals::say(p, number, place, len), b"\n");
+    pen::text(refusals::say(p, number, place), b"\n");
 }
 
 // A refusal of a file's table, said as a note; where the file ends too early, where that is.
 pub fn say_table_refused(path: &[u8], block: &[u8], number: u8, place: usize, desk: Desk) {
-    let p = refusals::say_of_table(files::about(path, desk), number, place, block.len());
+    let p = refusals::say_of_table(files::about(path, desk), number, place);
     let q = pen::text(p, b"\n");
     if number == 14 {
         cut::explain(q, block);
@@ -112,7 +112,7 @@ fn found(path: &[u8], block: &[u8], position: usize, desk: Desk) -> Column {
         return c;
     }
     if c.number == 16 {
-        say_refused(path, position, 16, 0, 0, desk);
+        say_refused(path, position, 16, 0, desk);
     } else {
         say_table_refused(path, block, c.number, c.place, desk);
     }

@@ -156,11 +156,12 @@ fn say_had(p: Pen, c: Cut, had: usize) -> Pen {
 fn say_fault(p: Pen, block: &[u8], c: Cut) -> Pen {
     let start = c.start;
     let part = between(block, start, block.len());
+    let q = pen::form(p, b"  column %: ", c.position, 0, 0, 0);
     match load::count(part, kinds::of_spec(c.spec)) {
-        Answer::Done(_) => pen::text(p, b"  none of its readings is certain\n"),
-        Answer::Refused(number, place) => {
-            let q = pen::form(p, b"  column %: ", c.position, 0, 0, 0);
-            pen::text(refusals::say(q, number, place, part.len()), b"\n")
-        }
+        Answer::Done(_) => pen::text(
+            q,
+            b"the bytes end between numbers; none of its readings is certain\n",
+        ),
+        Answer::Refused(number, place) => pen::text(refusals::say(q, number, place), b"\n"),
     }
 }

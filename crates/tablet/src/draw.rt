@@ -21,7 +21,7 @@ use encoding::Answer;
 use picture::Scale;
 use picture::Stretch;
 
-// The column that is drawn: its position, its specification and its length. Where it was not found, the length is the block's.
+// The column that is drawn: its position, and where it was found its specification and its length.
 pub struct Subject {
     pub found: bool,
     pub position: usize,
@@ -187,7 +187,7 @@ fn draw_found(path: &[u8], c: Column, part: &[u8], out: &[u8], over: bool, desk:
     if d.number == 0 {
         return done;
     }
-    column::say_refused(path, c.position, d.number, d.place, part.len(), desk);
+    column::say_refused(path, c.position, d.number, d.place, desk);
     false
 }
 

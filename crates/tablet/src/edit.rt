@@ -23,11 +23,10 @@ use crate::words;
 use encoding::Answer;
 use splice::End;
 
-// What is edited: the range, its column's kind, how many bytes and readings that has, and whether a file that is there may be replaced.
+// What is edited: the range, its column's kind, how many readings that has, and whether a file that is there may be replaced.
 struct Wanted {
     range: Range,
     kind: Kind,
-    len: usize,
     old: usize,
     over: bool,
 }
@@ -109,7 +108,7 @@ fn finish(
 ) -> bool {
     let r = w.range;
     if e.number != 0 {
-        column::say_refused(path, r.position, e.number, e.place, w.len, desk);
+        column::say_refused(path, r.position, e.number, e.place, desk);
         return false;
     }
     let block = between(out, 0, e.len);
@@ -160,7 +159,6 @@ fn wanted_of(block: &[u8], c: Column, r: Range, over: bool) -> Wanted {
     Wanted {
         range: r,
         kind,
-        len: part.len(),
         old: count_of(part, kind),
         over,
     }

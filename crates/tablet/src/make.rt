@@ -86,7 +86,7 @@ fn say_no_column(text: &[u8], desk: Desk) {
 
 fn say_refused(text: &[u8], number: u8, desk: Desk) {
     let p = pen::text(pen::on(desk.notes), b"tablet: \"");
-    let q = refusals::say(pen::text(pen::text(p, text), b"\": "), number, 0, 0);
+    let q = refusals::say(pen::text(pen::text(p, text), b"\": "), number, 0);
     pen::text(q, b"\n");
 }
 
@@ -137,7 +137,7 @@ fn is_table(to: &[u8], block: &[u8], desk: Desk) -> bool {
         return true;
     }
     pen::text(
-        refusals::say(files::about(to, desk), o.number, o.place, block.len()),
+        refusals::say(files::about(to, desk), o.number, o.place),
         b"\n",
     );
     false
@@ -191,7 +191,7 @@ fn replace(
     let e = apply::apply(between(block, 0, len), r, kind, new, present, &mut out);
     if e.number != 0 {
         let name = between(text, 0, find(text, 0, b'='));
-        column::say_refused(name, position, e.number, e.place, 0, desk);
+        column::say_refused(name, position, e.number, e.place, desk);
         return STOPPED;
     }
     note_lost(between(&out, 0, e.len), position, new.len(), desk);

@@ -47,7 +47,7 @@ fn read_part(path: &[u8], position: usize, part: &[u8], kind: Kind, desk: Desk) 
             )
         }
         Answer::Refused(number, place) => {
-            column::say_refused(path, position, number, place, part.len(), desk);
+            column::say_refused(path, position, number, place, desk);
             false
         }
     }

@@ -3,7 +3,7 @@ use crate::pen;
 use crate::pen::Pen;
 use crate::words;
 
-// Refusal n is word n.
+// Refusal n is word n; 20 is none of the tool's.
 fn say_words(p: Pen, number: u8) -> Pen {
     let all = b"refused\0\
 the bytes end inside the number\0\
@@ -24,14 +24,21 @@ the columns are shorter than the data\0\
 there is no column at this position\0\
 columns of this type are not read here\0\
 the range ends before it starts, or reaches past the list\0\
-an id is at most 268,435,455\0";
+an id is at most 268,435,455\0\
+refused\0\
+the bytes end between numbers, with the next due\0";
     pen::text(p, words::word(all, number as usize))
+}
+
+// Is it a refusal of what stands in some bytes?
+fn is_of_bytes(number: u8) -> bool {
+    number < 7 || number == 21
 }
 
 // Places inside bytes are bytes, and those inside a list are indices; the other refusals have none.
 fn say_place(p: Pen, number: u8, place: usize) -> Pen {
     let n = number as u64;
-    if number < 7 {
+    if is_of_bytes(number) {
         return pen::form(p, b" at byte % (refusal %)", place as u64, n, 0, 0);
     }
     if number == 7 {
@@ -40,24 +47,15 @@ fn say_place(p: Pen, number: u8, place: usize) -> Pen {
     pen::form(p, b" (refusal %)", n, 0, 0, 0)
 }
 
-// A refusal in words, with its place and its number. Where 1 has the end of all `len` bytes as its place, a number was due there.
-pub fn say(p: Pen, number: u8, place: usize, len: usize) -> Pen {
-    if number == 1 {
-        if place == len {
-            return say_place(
-                pen::text(p, b"the bytes end before the number that is due"),
-                number,
-                place,
-            );
-        }
-    }
+// A refusal in words, with its place and its number.
+pub fn say(p: Pen, number: u8, place: usize) -> Pen {
     say_place(say_words(p, number), number, place)
 }
 
 // A refusal of a table. What is amiss in its bytes is said to be the table's.
-pub fn say_of_table(p: Pen, number: u8, place: usize, len: usize) -> Pen {
-    if number < 7 {
-        return say(pen::text(p, b"in the table "), number, place, len);
+pub fn say_of_table(p: Pen, number: u8, place: usize) -> Pen {
+    if is_of_bytes(number) {
+        return say(pen::text(p, b"in the table "), number, place);
     }
-    say(p, number, place, len)
+    say(p, number, place)
 }

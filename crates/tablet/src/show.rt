@@ -51,7 +51,7 @@ fn say_readings(p: Pen, part: &[u8], kind: Kind) -> Shown {
             bad: 0,
         },
         Answer::Refused(number, place) => Shown {
-            pen: pen::text(refusals::say(p, number, place, part.len()), b"\n"),
+            pen: pen::text(refusals::say(p, number, place), b"\n"),
             bad: 1,
         },
     }

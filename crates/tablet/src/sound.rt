@@ -30,10 +30,10 @@ fn parted(l: Line) -> Pen {
 }
 
 // A refusal in a line: of a column, with its position.
-fn with_refusal(l: Line, position: usize, number: u8, place: usize, len: usize) -> Line {
+fn with_refusal(l: Line, position: usize, number: u8, place: usize) -> Line {
     let q = pen::form(parted(l), b"column %: ", position as u64, 0, 0, 0);
     Line {
-        pen: refusals::say(q, number, place, len),
+        pen: refusals::say(q, number, place),
         sound: false,
     }
 }
@@ -47,7 +47,7 @@ fn judge_column(l: Line, block: &[u8], position: usize) -> Line {
     let part = between(block, c.start, c.end);
     match load::count(part, kind) {
         Answer::Done(_) => l,
-        Answer::Refused(number, place) => with_refusal(l, position, number, place, part.len()),
+        Answer::Refused(number, place) => with_refusal(l, position, number, place),
     }
 }
 
@@ -76,10 +76,7 @@ fn end_line(l: Line, rows: usize) -> bool {
 fn judge_block(p: Pen, block: &[u8]) -> bool {
     let o = raw_column::read_table(block);
     if o.number != 0 {
-        pen::text(
-            refusals::say_of_table(p, o.number, o.place, block.len()),
-            b"\n",
-        );
+        pen::text(refusals::say_of_table(p, o.number, o.place), b"\n");
         return false;
     }
     let t = o.table;

@@ -306,7 +306,7 @@ pub fn fracture(p: Pen, path: &[u8], s: Subject, number: u8, place: usize) -> Pe
         b"<path class=\"crack\" d=\"M90 190l40 50 40-50 40 50 40-50 40 50 40-50 40 50 40-50 40 50 40-50 40 50 40-50 40 50 40-50 40 50 40-50 40 50\"/>\n<text class=\"ink\" x=\"90\" y=\"150\" font-size=\"16\">Broken: ",
     );
     pen::text(
-        refusals::say(q, number, place, s.len),
+        refusals::say(q, number, place),
         b"</text>\n<text class=\"faint\" x=\"90\" y=\"290\">No reading is drawn: a column reads whole or not at all.</text>\n</svg>\n",
     )
 }

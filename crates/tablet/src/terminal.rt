@@ -181,7 +181,7 @@ pub fn fracture(p: Pen, path: &[u8], s: Subject, number: u8, place: usize) -> Pe
         b"\n\n  /\\/\\/\\/\\/\\/\\/\\/\\/\\/\\/\\/\\/\\/\\/\\/\\/\\/\\/\\/\\\n  BROKEN: ",
     );
     pen::text(
-        refusals::say(q, number, place, s.len),
+        refusals::say(q, number, place),
         b"\n  \\/\\/\\/\\/\\/\\/\\/\\/\\/\\/\\/\\/\\/\\/\\/\\/\\/\\/\\/\\/\n\nno reading is drawn: a column reads whole or not at all\n",
     )
 }

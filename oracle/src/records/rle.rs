@@ -65,6 +65,6 @@ pub fn lists(out: &mut String, options: &Options, random: &mut Random) {
 }
 
 pub fn bytes(out: &mut String, options: &Options, random: &mut Random) {
-    comment(out, "the readings and the refusals 1, 2 and 3 are those of the crate's decoder, over strict numbers; 8 and 9 are document 01's");
+    comment(out, "the readings and the refusals 1, 2, 3 and 21 (15) are those of the crate's decoder, over strict numbers; 8 and 9 are document 01's");
     optional::bytes(out, options, random, &COLUMN);
 }

@@ -1,4 +1,4 @@
-//! Tables and blocks. The crate's parse gives the refusals 1, 2, 3 and 12 and the rows, its `uncompressed` 13, its `bytes`
+//! Tables and blocks. The crate's parse gives the refusals 1, 2, 3, 12 and 21 and the rows, its `uncompressed` 13, its `bytes`
 //! the part of a specification. Document 01's are the block itself, the order of the checks, 11, 14, 15 and 16 by whole
 //! numbers, and the frame of a new block with 10.
 
@@ -245,7 +245,7 @@ fn block(rows: &[(u32, usize)], more: i64) -> Vec<u8> {
 }
 
 pub fn all(out: &mut String, options: &Options, random: &mut Random) {
-    comment(out, "the Rust: rows, parts, 1, 2, 3, 12 and 13; document 01: the block and the order of checks, 10 (a), 11 (b), 14 (e), 15 (f),");
+    comment(out, "the Rust: rows, parts, 1, 2, 3, 12, 13 and 21 (15); document 01: the block and the order of checks, 10 (a), 11 (b), 14 (e), 15 (f),");
     comment(out, "16 (10) and put_frame. Tables that both keys order alike; a lookup by specification where document 01 says that the Rust agrees");
     comment(out, "all blocks of few bytes over ten telling ones");
     all_lists(TELLING.len(), if options.lean { 3 } else { 5 }, |kinds| {

@@ -5,7 +5,7 @@ use borrow.Author.Needs.{needs}
 use native.Mathlib.Omega.{arith}
 use lib.ListN.{length, drop}
 use Rattle.leb128.specs.Digits.{digits}
-use Rattle.leb128.proofs.Scanning.{Room, room, onto, onto-none, final, tenth, next, ended}
+use Rattle.leb128.proofs.Scanning.{Room, room, onto, onto-none, final, tenth, next, none, cut}
 use Rattle.leb128.proofs.digits_at.Statement.{statement}
 use Rattle.leb128.proofs.digits_at.Tie as tie
 
@@ -73,8 +73,13 @@ loop-again c =
 
 returns-3 : tie.Need-returns-3 Inv-loop μ-loop
 returns-3 c =
-    let l = c .before .loop in
-    ended _ _ (l .low) (l .scale) (l .n) (l .prev) (l .i) (l .inv .3) (omega arith)
+    let l = c .before .before .loop in
+    none _ _ (l .low) (l .scale) (l .n) (l .prev) (l .i) (l .inv .3) (omega arith) (c .if3 .taken)
+
+returns-4 : tie.Need-returns-4 Inv-loop μ-loop
+returns-4 c =
+    let l = c .before .before .loop in
+    cut _ _ (l .low) (l .scale) (l .n) (l .prev) (l .i) (l .inv .3) (omega arith) (c .if3 .left)
 
 pub digits-at-spec : {M : Type 1} → statement M
 digits-at-spec =
@@ -95,4 +100,5 @@ digits-at-spec =
     add-i
     loop-less
     loop-again
-    returns-3)
+    returns-3
+    returns-4)
