@@ -7,6 +7,7 @@
  *  - a pointer is not null, not even with length 0 (any address will do there), and is aligned for its element;
  *  - the elements are readable and hold values, those behind a pointer without `const` writable too;
  *  - what is lent without `const` overlaps no other slice of the same call, and nobody else touches it until the call is over.
+ * A cursor's pointer is one to a single struct, under the same rules; its numbers may be any.
  * Nothing is kept: when a call returns, every buffer is the caller's alone again.
  *
  * ANSWERS are structs by value. `number` is 0 where the call was accepted, and else the refusal's; `place` is the refusal's place and
@@ -33,12 +34,18 @@
  *  18  range end below its start, or start or end beyond the list   0
  *  19  column id of 2^28 or more                                    0
  *  21  no byte where a number is due                                the length, where its first byte would be
+ *  24  a cursor for a column of another length, or beyond its end   0
  *
  * Places inside a column count from the column's first byte. A copy that ends between two numbers gets 21, one that ends within a number 1;
  * but a column whose bytes end where a run would begin is whole.
  *
  * WHAT IS LEFT BEHIND: on success an output holds the result at its front and is otherwise unchanged; decoded readings fill the first
  * slots, the rest unchanged. A refusal changes neither, but for an edit that is refused with 7 or 10 (see there).
+ *
+ * A COLUMN CAN ANNOUNCE MORE THAN YOU WILL HOLD: the six bytes ff ff ff ff 0f 05 are a sound column of 4,294,967,295 readings. Before you
+ * make slots for a column whose bytes you do not trust, ask its count, which costs what its bytes cost, and compare it with the most
+ * readings that you will hold; or lend as many slots as you will hold, and take 9 for an answer; or read it by a cursor, which needs no slots.
+ * The same is true of an edit: its slots hold the longer of old and new list.
  *
  * LISTS: an optional list is a slice of values and an equally long slice of presence bytes, 1 or 0. The value of an absent reading is
  * not looked at in a given list, and is 0 in filled slots. A boolean list is one slice of bytes, 1 or 0.
@@ -84,6 +91,31 @@ typedef struct {
     size_t place;   /* 8 */
     uint64_t count; /* 16 */
 } grundavok_counted;
+
+/* What comes next in a column that is read by a cursor. 24 bytes each. `what` is GRUNDAVOK_PRESENT, and value the reading's; or
+ * GRUNDAVOK_ABSENT or GRUNDAVOK_END, and value is 0. In a refusal it is 0, as all else: a refusal is never the end. */
+enum { GRUNDAVOK_PRESENT = 1, GRUNDAVOK_ABSENT = 2, GRUNDAVOK_END = 3 };
+
+typedef struct {
+    uint8_t number; /* 0 */
+    uint8_t what;   /* 1 */
+    size_t place;   /* 8 */
+    uint64_t value; /* 16 */
+} grundavok_next_u64;
+
+typedef struct {
+    uint8_t number; /* 0 */
+    uint8_t what;   /* 1 */
+    size_t place;   /* 8 */
+    int64_t value;  /* 16 */
+} grundavok_next_i64;
+
+typedef struct {
+    uint8_t number; /* 0 */
+    uint8_t what;   /* 1 */
+    size_t place;   /* 8 */
+    uint8_t value;  /* 16 */
+} grundavok_next_u8;
 
 /* A specification. 24 bytes. */
 typedef struct {
@@ -131,6 +163,40 @@ typedef struct {
     size_t len;            /* 16 */
     grundavok_table table; /* 24 */
 } grundavok_spliced;
+
+/* ---- Cursors: where a reader stands in a column. The caller keeps one beside the column's bytes. ---- */
+
+/* Of an rle column. 56 bytes. */
+typedef struct {
+    size_t len;     /* 0: the length of the column that it was made for */
+    size_t at;      /* 8: the position of what comes next */
+    uint64_t had;   /* 16: how many readings come before the next run */
+    uint64_t left;  /* 24: how many readings of the present run are left */
+    uint8_t sort;   /* 32: what they are: 0 absent, 1 one value that repeats, 2 (and above) literal values, read where they stand */
+    uint64_t value; /* 40: the value that repeats, 0 where none does */
+    size_t place;   /* 48: where it stands, 0 where none does */
+} grundavok_rle_cursor;
+
+/* Of a delta column. 64 bytes. */
+typedef struct {
+    size_t len;         /* 0: as above, and so the next four */
+    size_t at;          /* 8 */
+    uint64_t had;       /* 16 */
+    uint64_t left;      /* 24 */
+    uint8_t sort;       /* 32 */
+    int64_t difference; /* 40: the difference that repeats, 0 where none does */
+    size_t place;       /* 48: where it stands, 0 where none does */
+    int64_t sum;        /* 56: the last reading that was present, 0 before the first */
+} grundavok_delta_cursor;
+
+/* Of a boolean column, where each run is one count. 40 bytes. */
+typedef struct {
+    size_t len;    /* 0: as above, and so the next three */
+    size_t at;     /* 8 */
+    uint64_t had;  /* 16 */
+    uint64_t left; /* 24 */
+    uint8_t flag;  /* 32: what the readings of the present run are: 0 no, 1 (and above) yes */
+} grundavok_boolean_cursor;
 
 /* ---- Numbers ---- */
 
@@ -182,6 +248,22 @@ grundavok_counted grundavok_rle_decode(const uint8_t *s, size_t s_len, uint64_t 
 grundavok_counted grundavok_delta_decode(const uint8_t *s, size_t s_len, int64_t *values, size_t values_len, uint8_t *present,
                                          size_t present_len);
 grundavok_counted grundavok_boolean_decode(const uint8_t *s, size_t s_len, uint8_t *values, size_t values_len);
+
+/* The cursor before the first reading of a column: its length, and 0 (the flag is 1, as the first count is of no). It reads nothing. */
+grundavok_rle_cursor grundavok_rle_cursor_new(const uint8_t *column, size_t column_len);
+grundavok_delta_cursor grundavok_delta_cursor_new(const uint8_t *column, size_t column_len);
+grundavok_boolean_cursor grundavok_boolean_cursor_new(const uint8_t *column, size_t column_len);
+
+/* The next reading, the end, or a refusal; the cursor is advanced in place. No slots and no copy: a call costs the bytes that it passes,
+ * whatever the counts say. From a new cursor the readings are those of decode, in order, and then the end. On a faulty column those before
+ * the first faulty reading come first, then the refusal that the count gives. Both come again at every later call: the end and a refusal
+ * leave the cursor as it was. So whoever draws while he reads learns only at a refusal that the column is broken.
+ * Refusals: 24 before all others, where the cursor was made for another length or stands beyond the column's end; then the column's
+ * fault. Any numbers may be lent, also a cursor of another column of the same length: what a step then gives is defined, and is the same for
+ * all columns that agree from the cursor's position on. A boolean column has no absent readings. To go back, keep a copy of the cursor. */
+grundavok_next_u64 grundavok_rle_next(const uint8_t *column, size_t column_len, grundavok_rle_cursor *cursor);
+grundavok_next_i64 grundavok_delta_next(const uint8_t *column, size_t column_len, grundavok_delta_cursor *cursor);
+grundavok_next_u8 grundavok_boolean_next(const uint8_t *column, size_t column_len, grundavok_boolean_cursor *cursor);
 
 /* How many bytes the list takes as a column. Refusals, in this order: 8, 5; of delta 7 too. */
 grundavok_counted grundavok_rle_encoded_len(const uint64_t *values, size_t values_len, const uint8_t *present, size_t present_len);

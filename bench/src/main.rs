@@ -93,7 +93,7 @@ fn columns(rows: &mut Rows, shape: &str, n: usize) {
     let unsigned: Vec<Option<u64>> = signed.iter().map(|x| x.map(|v| (v + 1_000_000_000) as u64)).collect();
     let flags: Vec<bool> = signed.iter().map(|x| x.is_some_and(|v| v / 4 % 2 == 0)).collect();
     macro_rules! optional {
-        ($kind:ident, $list:expr, $decode:path, $encode:path) => {
+        ($kind:ident, $list:expr, $decode:path, $encode:path, $walk:path) => {
             let bytes = $kind::encode(&$list);
             let (v, p) = slots(&$list);
             let mut out = vec![0u8; bytes.len()];
@@ -118,10 +118,17 @@ fn columns(rows: &mut Rows, shape: &str, n: usize) {
                 || $encode(black_box(&v), &p, &mut out),
                 || $kind::encode(black_box(&$list)),
             );
+            walks(
+                rows,
+                &name("next by next"),
+                n,
+                |seen| $walk(black_box(&bytes), |reading| seen.reading(reading.map(|v| v as u64))),
+                |seen| $kind::iter(black_box(&bytes)).for_each(|reading| seen.reading(reading.map(|v| v as u64))),
+            );
         };
     }
-    optional!(rle, unsigned, ours::rle_decode, ours::rle_encode);
-    optional!(delta, signed, ours::delta_decode, ours::delta_encode);
+    optional!(rle, unsigned, ours::rle_decode, ours::rle_encode, ours::rle_walk);
+    optional!(delta, signed, ours::delta_decode, ours::delta_encode, ours::delta_walk);
     let bytes = boolean::encode(&flags);
     let given: Vec<u8> = flags.iter().map(|&b| u8::from(b)).collect();
     let mut out = vec![0u8; bytes.len()];
@@ -145,6 +152,40 @@ fn columns(rows: &mut Rows, shape: &str, n: usize) {
         || ours::boolean_encode(black_box(&given), &mut out),
         || boolean::encode(black_box(&flags)),
     );
+    walks(
+        rows,
+        &name("next by next"),
+        n,
+        |seen| ours::boolean_walk(black_box(&bytes), |value| seen.reading(value.map(u64::from))),
+        |seen| boolean::iter(black_box(&bytes)).for_each(|value| seen.reading(Some(u64::from(value)))),
+    );
+}
+
+/// What was seen of readings that came one by one, so that each is looked at.
+#[derive(Default, Debug, PartialEq)]
+struct Seen {
+    sum: u64,
+    absent: u64,
+}
+
+impl Seen {
+    fn reading(&mut self, reading: Option<u64>) {
+        match reading {
+            Some(v) => self.sum = self.sum.rotate_left(1).wrapping_add(v),
+            None => self.absent += 1,
+        }
+    }
+}
+
+/// A column walked a reading at a time to its end, by our cursor and by the crate's iterator.
+fn walks(rows: &mut Rows, name: &str, n: usize, ours: impl Fn(&mut Seen), rust: impl Fn(&mut Seen)) {
+    let seen = |walk: &dyn Fn(&mut Seen)| {
+        let mut seen = Seen::default();
+        walk(&mut seen);
+        seen
+    };
+    assert_eq!(seen(&ours), seen(&rust));
+    rows.row(name, n, n, || seen(&ours), || seen(&rust));
 }
 
 /// The sum of numbers that stand one behind another: `read` gives the one at a position, and the position behind it.

@@ -1,6 +1,6 @@
 //! The proved library by its C boundary, as `bindings/rust` declares it, with buffers lent by the caller.
 
-use grundavok::raw::{Number, Opened};
+use grundavok::raw::{Number, Opened, ABSENT, END, PRESENT};
 use grundavok::raw_call;
 
 pub fn leb128_u64(s: &[u8], at: usize) -> Number<u64> {
@@ -10,6 +10,27 @@ pub fn leb128_u64(s: &[u8], at: usize) -> Number<u64> {
 pub fn leb128_i64(s: &[u8], at: usize) -> Number<i64> {
     raw_call!(grundavok_leb128_i64, [s], (at), [], [])
 }
+
+/// A column's readings one by one to its end: `see` is handed each, `None` where it is absent.
+macro_rules! walk {
+    ($walk:ident, $c_new:ident, $c_next:ident, $t:ty) => {
+        pub fn $walk(s: &[u8], mut see: impl FnMut(Option<$t>)) {
+            let mut cursor = raw_call!($c_new, [s], (), [], []);
+            loop {
+                let a = raw_call!($c_next, [s], (&mut cursor), [], []);
+                match a.what {
+                    PRESENT => see(Some(a.value)),
+                    ABSENT => see(None),
+                    what => break assert_eq!(what, END),
+                }
+            }
+        }
+    };
+}
+
+walk!(rle_walk, grundavok_rle_cursor_new, grundavok_rle_next, u64);
+walk!(delta_walk, grundavok_delta_cursor_new, grundavok_delta_next, i64);
+walk!(boolean_walk, grundavok_boolean_cursor_new, grundavok_boolean_next, u8);
 
 macro_rules! optional {
     ($decode:ident, $encode:ident, $splice:ident, $c_decode:ident, $c_encode:ident, $c_splice:ident, $t:ty) => {

@@ -3,7 +3,7 @@
 use crate::columnar::encoding::{
     BooleanDecoder, BooleanEncoder, MaybeBooleanDecoder, MaybeBooleanEncoder,
 };
-use crate::{readings, Refusal};
+use crate::{readings, Refusal, Walk};
 
 pub fn encode(list: &[bool]) -> Vec<u8> {
     let mut encoder = BooleanEncoder::new();
@@ -25,6 +25,10 @@ pub fn decode(column: &[u8], most: usize) -> Result<Vec<bool>, Refusal> {
     readings(column, BooleanDecoder::from(column), most)
 }
 
+pub fn walk(column: &[u8], most: usize) -> Walk<bool> {
+    crate::walk(column, BooleanDecoder::from(column), most)
+}
+
 pub fn decode_maybe(column: &[u8], most: usize) -> Result<Vec<Option<bool>>, Refusal> {
     readings(column, MaybeBooleanDecoder::from(column), most)
 }
@@ -35,4 +39,9 @@ pub fn splice(column: &[u8], start: usize, end: usize, new: &[bool]) -> Result<V
     let mut list = decode(column, usize::MAX)?;
     list.splice(start..end.min(list.len()), new.iter().copied());
     Ok(encode(&list))
+}
+
+/// The values as the crate's decoder, an iterator, gives them, for measuring.
+pub fn iter(column: &[u8]) -> impl Iterator<Item = bool> + '_ {
+    BooleanDecoder::from(column).map(|value| value.ok().unwrap())
 }

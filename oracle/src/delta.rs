@@ -3,7 +3,7 @@
 use crate::columnar::column_range::DeltaRange;
 use crate::columnar::encoding::RleDecoder;
 use crate::columnar::SpliceError;
-use crate::{column_refusal, readings, Refusal};
+use crate::{column_refusal, readings, Refusal, Walk};
 use std::convert::Infallible;
 
 pub fn encode(list: &[Option<i64>]) -> Vec<u8> {
@@ -17,17 +17,27 @@ pub fn decode(column: &[u8], most: usize) -> Result<Vec<Option<i64>>, Refusal> {
     readings(column, decoder, most)
 }
 
-/// Do the sums stay within i64 up to the column's first fault? Where they do not, `decode` panics.
-pub fn is_within(column: &[u8], most: usize) -> bool {
+/// The index of the first reading, of those up to the column's first fault, whose sum leaves i64. There `decode` panics.
+fn leaving(column: &[u8], most: usize) -> Option<usize> {
     let mut sum = 0i64;
-    for delta in RleDecoder::<i64>::from(column).take(most + 1) {
-        let Ok(delta) = delta else { break };
-        let Some(next) = sum.checked_add(delta.unwrap_or(0)) else {
-            return false;
+    for (index, delta) in RleDecoder::<i64>::from(column).take(most + 1).enumerate() {
+        let Some(next) = sum.checked_add(delta.ok()?.unwrap_or(0)) else {
+            return Some(index);
         };
         sum = next;
     }
-    true
+    None
+}
+
+/// The walk ends with document 01's 6 where a sum leaves i64.
+pub fn walk(column: &[u8], most: usize) -> Walk<Option<i64>> {
+    let decoder = DeltaRange::from(0..column.len()).decoder(column);
+    let Some(index) = leaving(column, most) else {
+        return crate::walk(column, decoder, most);
+    };
+    let mut walk = crate::walk(column, decoder.take(index), most);
+    walk.ending = walk.ending.and(Err(6));
+    walk
 }
 
 /// The column with the readings from `start` up to `end` replaced. A start past the list panics in the crate.
@@ -44,4 +54,10 @@ pub fn splice(
         Err(SpliceError::ReadExisting(e)) => Err(column_refusal(column, &e)),
         Err(SpliceError::ReadReplace(e)) => match e {},
     }
+}
+
+/// The readings as the crate's decoder, an iterator, gives them, for measuring.
+pub fn iter(column: &[u8]) -> impl Iterator<Item = Option<i64>> + '_ {
+    let decoder = DeltaRange::from(0..column.len()).decoder(column);
+    decoder.map(|reading| reading.ok().unwrap())
 }

@@ -19,20 +19,42 @@ pub type Refusal = u8;
 /// No number of document 01: the list is longer than the caller asked for.
 pub const TOO_MANY: Refusal = 200;
 
+/// What a decoder, an iterator, gives: the readings in order, at most as many as the caller asked for, and behind them the
+/// end, the number of the first fault, or `TOO_MANY`.
+pub struct Walk<T> {
+    pub readings: Vec<T>,
+    pub ending: Result<(), Refusal>,
+}
+
+/// The readings of a column one by one, and then its end, which has to come again when it is asked for again.
+fn walk<T>(
+    column: &[u8],
+    mut decoder: impl Iterator<Item = Result<T, raw::Error>>,
+    most: usize,
+) -> Walk<T> {
+    let mut readings = vec![];
+    let ending = loop {
+        match decoder.next() {
+            None => {
+                assert!(decoder.next().is_none() && decoder.next().is_none());
+                break Ok(());
+            }
+            Some(Err(e)) => break Err(column_refusal(column, &e)),
+            Some(Ok(_)) if readings.len() == most => break Err(TOO_MANY),
+            Some(Ok(reading)) => readings.push(reading),
+        }
+    };
+    Walk { readings, ending }
+}
+
 /// At most `most` readings of a column, or the number of the first fault.
 fn readings<T>(
     column: &[u8],
     decoder: impl Iterator<Item = Result<T, raw::Error>>,
     most: usize,
 ) -> Result<Vec<T>, Refusal> {
-    let mut list = vec![];
-    for reading in decoder {
-        list.push(reading.map_err(|e| column_refusal(column, &e))?);
-        if list.len() > most {
-            return Err(TOO_MANY);
-        }
-    }
-    Ok(list)
+    let walk = walk(column, decoder, most);
+    walk.ending.map(|()| walk.readings)
 }
 
 fn column_refusal(column: &[u8], error: &raw::Error) -> Refusal {

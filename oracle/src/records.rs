@@ -10,6 +10,7 @@ mod optional;
 mod rle;
 mod specifications;
 mod tables;
+mod walks;
 mod writing;
 
 use crate::random::Random;
@@ -31,7 +32,7 @@ pub struct Family {
     write: fn(&mut String, &Options, &mut Random),
 }
 
-pub const FAMILIES: [Family; 12] = [
+pub const FAMILIES: [Family; 13] = [
     Family {
         name: "numbers-short",
         about: "the four readers on all inputs of 0 to 2 bytes",
@@ -81,6 +82,11 @@ pub const FAMILIES: [Family; 12] = [
         name: "delta-bytes",
         about: "delta columns of optional i64, sound and faulty ones, counted and decoded",
         write: delta::bytes,
+    },
+    Family {
+        name: "walks",
+        about: "columns of the three kinds, sound and faulty ones, walked a reading at a time",
+        write: walks::all,
     },
     Family {
         name: "tables",

@@ -18,6 +18,22 @@ fn a_count_of_single_values_that_passes_the_limit_is_not_refused() {
 }
 
 #[test]
+fn behind_a_fault_the_decoder_goes_on() {
+    // twice a value that is not there: the fault once, and then two readings as absent
+    let absent = Some(Ok(None));
+    assert_eq!(
+        rle::answers(&[2], 4),
+        [Some(Err(21)), absent.clone(), absent, None]
+    );
+    // two values of which one is there: the fault once, and then the end
+    let five = Some(Ok(Some(5)));
+    assert_eq!(
+        rle::answers(&[0x7e, 5], 4),
+        [five, Some(Err(21)), None, None]
+    );
+}
+
+#[test]
 fn the_maybe_decoder_reads_an_empty_column_as_an_empty_list() {
     assert_eq!(boolean::decode_maybe(&[], 10), Ok(vec![]));
 }

@@ -36,6 +36,36 @@ void u32_is(int line, const char *call, grundavok_number_u32 r, uint8_t number, 
     told(line, call, r.number == number && r.place == place && r.value == value && r.next == next);
 }
 
+void next_u64_is(int line, const char *call, grundavok_next_u64 r, uint8_t number, size_t place, uint8_t what, uint64_t value) {
+    calls++;
+    told(line, call, r.number == number && r.place == place && r.what == what && r.value == value);
+}
+
+void next_i64_is(int line, const char *call, grundavok_next_i64 r, uint8_t number, size_t place, uint8_t what, int64_t value) {
+    calls++;
+    told(line, call, r.number == number && r.place == place && r.what == what && r.value == value);
+}
+
+void next_u8_is(int line, const char *call, grundavok_next_u8 r, uint8_t number, size_t place, uint8_t what, uint8_t value) {
+    calls++;
+    told(line, call, r.number == number && r.place == place && r.what == what && r.value == value);
+}
+
+/* A cursor has padding, so its numbers decide. */
+void rle_cursor_is(int line, const char *what, grundavok_rle_cursor a, grundavok_rle_cursor b) {
+    told(line, what, a.len == b.len && a.at == b.at && a.had == b.had && a.left == b.left);
+    told(line, what, a.sort == b.sort && a.value == b.value && a.place == b.place);
+}
+
+void delta_cursor_is(int line, const char *what, grundavok_delta_cursor a, grundavok_delta_cursor b) {
+    told(line, what, a.len == b.len && a.at == b.at && a.had == b.had && a.left == b.left);
+    told(line, what, a.sort == b.sort && a.difference == b.difference && a.place == b.place && a.sum == b.sum);
+}
+
+void boolean_cursor_is(int line, const char *what, grundavok_boolean_cursor a, grundavok_boolean_cursor b) {
+    told(line, what, a.len == b.len && a.at == b.at && a.had == b.had && a.left == b.left && a.flag == b.flag);
+}
+
 void counted_is(int line, const char *call, grundavok_counted r, uint8_t number, size_t place, uint64_t count) {
     calls++;
     told(line, call, r.number == number && r.place == place && r.count == count);
@@ -71,6 +101,12 @@ void spliced_is(int line, const char *call, grundavok_spliced r, uint8_t number,
 _Static_assert(sizeof(grundavok_number_u64) == 32 && offsetof(grundavok_number_u64, next) == 24, "number_u64");
 _Static_assert(sizeof(grundavok_number_i64) == 32 && offsetof(grundavok_number_i64, next) == 24, "number_i64");
 _Static_assert(sizeof(grundavok_number_u32) == 32 && offsetof(grundavok_number_u32, next) == 24, "number_u32");
+_Static_assert(sizeof(grundavok_next_u64) == 24 && offsetof(grundavok_next_u64, value) == 16, "next_u64");
+_Static_assert(sizeof(grundavok_next_i64) == 24 && offsetof(grundavok_next_i64, value) == 16, "next_i64");
+_Static_assert(sizeof(grundavok_next_u8) == 24 && offsetof(grundavok_next_u8, value) == 16, "next_u8");
+_Static_assert(sizeof(grundavok_rle_cursor) == 56 && offsetof(grundavok_rle_cursor, place) == 48, "rle_cursor");
+_Static_assert(sizeof(grundavok_delta_cursor) == 64 && offsetof(grundavok_delta_cursor, sum) == 56, "delta_cursor");
+_Static_assert(sizeof(grundavok_boolean_cursor) == 40 && offsetof(grundavok_boolean_cursor, flag) == 32, "boolean_cursor");
 _Static_assert(sizeof(grundavok_counted) == 24 && offsetof(grundavok_counted, count) == 16, "counted");
 _Static_assert(sizeof(grundavok_specification) == 24 && offsetof(grundavok_specification, spec) == 16, "specification");
 _Static_assert(sizeof(grundavok_table) == 1288 && offsetof(grundavok_table, rows) == 1280, "table");
@@ -83,6 +119,7 @@ int main(void) {
     numbers();
     specifications();
     columns();
+    cursors();
     tables();
     edits();
     printf("capi: %d calls compared, %d differences\n", calls, differences);

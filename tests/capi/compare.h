@@ -14,6 +14,12 @@ void number_is(int line, const char *call, uint64_t is, uint64_t wanted);
 void u64_is(int line, const char *call, grundavok_number_u64 r, uint8_t number, size_t place, uint64_t value, size_t next);
 void i64_is(int line, const char *call, grundavok_number_i64 r, uint8_t number, size_t place, int64_t value, size_t next);
 void u32_is(int line, const char *call, grundavok_number_u32 r, uint8_t number, size_t place, uint32_t value, size_t next);
+void next_u64_is(int line, const char *call, grundavok_next_u64 r, uint8_t number, size_t place, uint8_t what, uint64_t value);
+void next_i64_is(int line, const char *call, grundavok_next_i64 r, uint8_t number, size_t place, uint8_t what, int64_t value);
+void next_u8_is(int line, const char *call, grundavok_next_u8 r, uint8_t number, size_t place, uint8_t what, uint8_t value);
+void rle_cursor_is(int line, const char *what, grundavok_rle_cursor is, grundavok_rle_cursor wanted);
+void delta_cursor_is(int line, const char *what, grundavok_delta_cursor is, grundavok_delta_cursor wanted);
+void boolean_cursor_is(int line, const char *what, grundavok_boolean_cursor is, grundavok_boolean_cursor wanted);
 void counted_is(int line, const char *call, grundavok_counted r, uint8_t number, size_t place, uint64_t count);
 void spec_is(int line, const char *call, grundavok_specification r, uint8_t number, size_t place, uint32_t spec);
 void part_is(int line, const char *call, grundavok_part r, uint8_t number, size_t place, size_t start, size_t len);
@@ -26,6 +32,12 @@ void left_is(int line, const char *what, const void *is, const void *wanted, siz
 #define U64(call, ...) u64_is(__LINE__, #call, call, __VA_ARGS__)
 #define I64(call, ...) i64_is(__LINE__, #call, call, __VA_ARGS__)
 #define U32(call, ...) u32_is(__LINE__, #call, call, __VA_ARGS__)
+#define NEXT_U64(call, ...) next_u64_is(__LINE__, #call, call, __VA_ARGS__)
+#define NEXT_I64(call, ...) next_i64_is(__LINE__, #call, call, __VA_ARGS__)
+#define NEXT_U8(call, ...) next_u8_is(__LINE__, #call, call, __VA_ARGS__)
+#define RLE_CURSOR(k, ...) rle_cursor_is(__LINE__, #k, k, (grundavok_rle_cursor){__VA_ARGS__})
+#define DELTA_CURSOR(k, ...) delta_cursor_is(__LINE__, #k, k, (grundavok_delta_cursor){__VA_ARGS__})
+#define BOOLEAN_CURSOR(k, ...) boolean_cursor_is(__LINE__, #k, k, (grundavok_boolean_cursor){__VA_ARGS__})
 #define COUNTED(call, ...) counted_is(__LINE__, #call, call, __VA_ARGS__)
 #define SPEC(call, ...) spec_is(__LINE__, #call, call, __VA_ARGS__)
 #define PART(call, ...) part_is(__LINE__, #call, call, __VA_ARGS__)
@@ -45,6 +57,7 @@ void left_is(int line, const char *what, const void *is, const void *wanted, siz
 void numbers(void);
 void specifications(void);
 void columns(void);
+void cursors(void);
 void tables(void);
 void edits(void);
 

@@ -1,5 +1,5 @@
 # The declarations of C that a source stands for: a line for each struct and for each function, as the header has them but for its comments
-# and line breaks. Input: crates/capi/src/*.rt, or what Rust declares of the boundary, bindings/rust/src/raw.rs.
+# and line breaks. Input: crates/capi/src/*.rt and what it exports of the cursors, or what Rust declares of the boundary, bindings/rust/src/raw.rs.
 
 function c_type(t) {
     sub(/<u/, "U", t) # Number<u64> of Rust is NumberU64
@@ -26,6 +26,7 @@ function c_param(name, t,    element) {
     if (t ~ /^\*const /) return "const " c_type(substr(t, 8)) " *" name
     if (t ~ /^\*mut /) return c_type(substr(t, 6)) " *" name
     if (t !~ /^&/) return c_type(t) " " name
+    if (t ~ /^&mut [A-Z]/) return c_type(substr(t, 6)) " *" name # one struct
     element = t
     gsub(/[&\[\] ]|mut/, "", element)
     return (t ~ /mut/ ? "" : "const ") c_type(element) " *" name ", size_t " name "_len"

@@ -1,4 +1,4 @@
-# The declarations of a header, a line for each, without comments and line breaks: what declared.awk writes of the source.
+# The declarations of a header, a line for each, without comments, constants and line breaks: what declared.awk writes of the source.
 
 /^#ifdef __cplusplus/ { cplusplus = 1 }
 !cplusplus && !/^#/ { text = text " " $0 }
@@ -16,7 +16,7 @@ END {
         line = line ch
         if (ch == ";" && depth == 0) {
             sub(/^ /, "", line)
-            print line
+            if (line !~ /^enum /) print line # constants
             line = ""
         }
     }

@@ -2,15 +2,23 @@
 
 use crate::{judged, lists, raw, Refusal};
 
+crate::readings::readings!(
+    bool,
+    BooleanCursor,
+    grundavok_boolean_cursor_new,
+    grundavok_boolean_next,
+    |_, value| value != 0
+);
+
 /// How many values a column has, or its first fault: 1, 2, 3 or 5. It costs what the bytes cost.
 pub fn count(s: &[u8]) -> Result<usize, Refusal> {
     let r = unsafe { raw::grundavok_boolean_count(s.as_ptr(), s.len()) };
     judged(r.number, r.place, lists::length(r.count))
 }
 
-/// The column's values. A few bytes can stand for 4,294,967,295 of them: ask `count` first where the bytes are not trusted.
-pub fn decode(s: &[u8]) -> Result<Vec<bool>, Refusal> {
-    let n = count(s)?;
+/// The column's values, of which the caller will hold `most`. Refusals: those of `count`; 9 where there are more.
+pub fn decode(s: &[u8], most: usize) -> Result<Vec<bool>, Refusal> {
+    let n = count(s)?.min(most);
     let mut values = vec![0; n];
     let r = unsafe { raw::grundavok_boolean_decode(s.as_ptr(), s.len(), values.as_mut_ptr(), n) };
     judged(r.number, r.place, lists::booleans(&values))

@@ -5,5 +5,8 @@ crate::rle::optional_column!(
     grundavok_delta_count,
     grundavok_delta_decode,
     grundavok_delta_encoded_len,
-    grundavok_delta_encode
+    grundavok_delta_encode,
+    DeltaCursor,
+    grundavok_delta_cursor_new,
+    grundavok_delta_next
 );

@@ -15,6 +15,19 @@ pub struct Counted {
     pub count: u64,
 }
 
+/// What comes next in a column: `what` is `PRESENT`, `ABSENT` or `END`, and 0 in a refusal.
+#[repr(C)]
+pub struct Next<T> {
+    pub number: u8,
+    pub what: u8,
+    pub place: usize,
+    pub value: T,
+}
+
+pub const PRESENT: u8 = 1;
+pub const ABSENT: u8 = 2;
+pub const END: u8 = 3;
+
 #[repr(C)]
 pub struct Specification {
     pub number: u8,
@@ -62,8 +75,44 @@ pub struct Spliced {
     pub table: Table,
 }
 
-// Every pointer is that of a slice of its length: never null, aligned, and, where it is `*mut`, lent by one `&mut`. That is all that the
-// boundary asks of its callers.
+/// Where a reader stands in a column. The header says what each number is; any numbers may be lent.
+#[repr(C)]
+#[derive(Clone, Copy, Debug, PartialEq, Eq)]
+pub struct RleCursor {
+    pub len: usize,
+    pub at: usize,
+    pub had: u64,
+    pub left: u64,
+    pub sort: u8,
+    pub value: u64,
+    pub place: usize,
+}
+
+#[repr(C)]
+#[derive(Clone, Copy, Debug, PartialEq, Eq)]
+pub struct DeltaCursor {
+    pub len: usize,
+    pub at: usize,
+    pub had: u64,
+    pub left: u64,
+    pub sort: u8,
+    pub difference: i64,
+    pub place: usize,
+    pub sum: i64,
+}
+
+#[repr(C)]
+#[derive(Clone, Copy, Debug, PartialEq, Eq)]
+pub struct BooleanCursor {
+    pub len: usize,
+    pub at: usize,
+    pub had: u64,
+    pub left: u64,
+    pub flag: u8,
+}
+
+// Every pointer is that of a slice of its length, or of one cursor: never null, aligned, and, where it is `*mut`, lent by one `&mut`. That is
+// all that the boundary asks of its callers.
 extern "C" {
     pub fn grundavok_leb128_u64(s: *const u8, s_len: usize, at: usize) -> Number<u64>;
     pub fn grundavok_leb128_i64(s: *const u8, s_len: usize, at: usize) -> Number<i64>;
@@ -102,6 +151,12 @@ extern "C" {
         present_len: usize,
     ) -> Counted;
     pub fn grundavok_boolean_decode(s: *const u8, s_len: usize, values: *mut u8, values_len: usize) -> Counted;
+    pub fn grundavok_rle_cursor_new(column: *const u8, column_len: usize) -> RleCursor;
+    pub fn grundavok_delta_cursor_new(column: *const u8, column_len: usize) -> DeltaCursor;
+    pub fn grundavok_boolean_cursor_new(column: *const u8, column_len: usize) -> BooleanCursor;
+    pub fn grundavok_rle_next(column: *const u8, column_len: usize, cursor: *mut RleCursor) -> Next<u64>;
+    pub fn grundavok_delta_next(column: *const u8, column_len: usize, cursor: *mut DeltaCursor) -> Next<i64>;
+    pub fn grundavok_boolean_next(column: *const u8, column_len: usize, cursor: *mut BooleanCursor) -> Next<u8>;
     pub fn grundavok_rle_encoded_len(values: *const u64, values_len: usize, present: *const u8, present_len: usize) -> Counted;
     pub fn grundavok_delta_encoded_len(values: *const i64, values_len: usize, present: *const u8, present_len: usize) -> Counted;
     pub fn grundavok_boolean_encoded_len(values: *const u8, values_len: usize) -> Counted;

@@ -1,19 +1,21 @@
 //! Run-length columns of optional u64: Actor and Integer columns.
 
-/// The four calls over a column of optional readings; `delta` has the same over i64.
+/// The calls over a column of optional readings; `delta` has the same over i64.
 macro_rules! optional_column {
-    ($element:ty, $count:ident, $decode:ident, $encoded_len:ident, $encode:ident) => {
+    ($element:ty, $count:ident, $decode:ident, $encoded_len:ident, $encode:ident, $cursor:ident, $new:ident, $next:ident) => {
         use crate::{judged, lists, raw, Refusal};
 
-        /// How many readings a column has, or its first fault: 1, 2, 3, 5 or, of a delta column, 6. It costs what the bytes cost.
+        crate::readings::readings!(Option<$element>, $cursor, $new, $next, lists::reading);
+
+        /// How many readings a column has, or its first fault: 1, 2, 3, 21, 5 or, of a delta column, 6. It costs what the bytes cost.
         pub fn count(s: &[u8]) -> Result<usize, Refusal> {
             let r = unsafe { raw::$count(s.as_ptr(), s.len()) };
             judged(r.number, r.place, lists::length(r.count))
         }
 
-        /// The column's readings. A few bytes can stand for 4,294,967,295 of them: ask `count` first where the bytes are not trusted.
-        pub fn decode(s: &[u8]) -> Result<Vec<Option<$element>>, Refusal> {
-            let n = count(s)?;
+        /// The column's readings, of which the caller will hold `most`. Refusals: those of `count`; 9 where there are more.
+        pub fn decode(s: &[u8], most: usize) -> Result<Vec<Option<$element>>, Refusal> {
+            let n = count(s)?.min(most);
             let (mut values, mut present) = (vec![0; n], vec![0; n]);
             let r = unsafe { raw::$decode(s.as_ptr(), s.len(), values.as_mut_ptr(), n, present.as_mut_ptr(), n) };
             judged(r.number, r.place, lists::together(&values, &present))
@@ -56,5 +58,8 @@ optional_column!(
     grundavok_rle_count,
     grundavok_rle_decode,
     grundavok_rle_encoded_len,
-    grundavok_rle_encode
+    grundavok_rle_encode,
+    RleCursor,
+    grundavok_rle_cursor_new,
+    grundavok_rle_next
 );

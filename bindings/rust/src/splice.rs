@@ -1,7 +1,9 @@
 //! Edits: a range of one column's readings replaced, and the whole new block. The calls with `_to_end` take all readings from a start on.
 //!
+//! The caller says the most readings that he will hold; the longer of old and new list may have so many.
+//!
 //! Refusals, in this order: those of `read_table`; 16; 17; 18 for an end below the start; the column's first fault; 18 for a start or an end
-//! beyond the list; 5 for the result; 7 (delta alone).
+//! beyond the list; 5 for the result; 9 for more readings than that; 7 (delta alone).
 
 use crate::raw_column::{column, rows, Row};
 use crate::{boolean, delta, judged, lists, raw, raw_call, rle, Refusal};
@@ -17,7 +19,8 @@ pub struct Spliced<T> {
 /// A number takes at most ten bytes, so a table with one length changed grows by less.
 const TABLE_GROWTH: usize = 10;
 
-/// How long the old list is, and the new one. A column that cannot be read counts as empty: the edit itself then says what is wrong.
+/// How long the old list is, and the new one. A column that cannot be read counts as empty: the edit itself then says what is wrong, and so it
+/// does where the slots are fewer.
 fn lengths(old: Result<usize, Refusal>, start: usize, end: usize, new: usize) -> (usize, usize) {
     let old = old.unwrap_or(0);
     let (start, end) = (start.min(old), end.min(old));
@@ -48,10 +51,12 @@ macro_rules! optional_splice {
             start: usize,
             $($end: usize,)?
             new: &[Option<$element>],
+            most: usize,
         ) -> Result<Spliced<Option<$element>>, Refusal> {
             let (old, len) = lengths(column(block, position).and_then($column::count), start, $till, new.len());
             let (new_values, new_present) = lists::apart(new);
-            let (mut values, mut present) = (vec![0; old.max(len)], vec![0; old.max(len)]);
+            let held = old.max(len).min(most);
+            let (mut values, mut present) = (vec![0; held], vec![0; held]);
             let edit = |out: &mut [u8], values: &mut [$element], present: &mut [u8]| {
                 raw_call!($call, [block], (position, start $(, $end)?), [new_values, new_present], [values, present, out])
             };
@@ -71,10 +76,17 @@ optional_splice!(splice_delta_to_end, i64, delta, grundavok_splice_delta_to_end,
 
 macro_rules! boolean_splice {
     ($name:ident, $call:ident, ($($end:ident)?), $till:expr) => {
-        pub fn $name(block: &[u8], position: usize, start: usize, $($end: usize,)? new: &[bool]) -> Result<Spliced<bool>, Refusal> {
+        pub fn $name(
+            block: &[u8],
+            position: usize,
+            start: usize,
+            $($end: usize,)?
+            new: &[bool],
+            most: usize,
+        ) -> Result<Spliced<bool>, Refusal> {
             let (old, len) = lengths(column(block, position).and_then(boolean::count), start, $till, new.len());
             let new = lists::bytes(new);
-            let mut values = vec![0; old.max(len)];
+            let mut values = vec![0; old.max(len).min(most)];
             let edit = |out: &mut [u8], values: &mut [u8]| raw_call!($call, [block], (position, start $(, $end)?), [new], [values, out]);
             until_10(edit(&mut [], &mut values))?;
             let size = boolean::size(&values[..len])?;

@@ -17,8 +17,21 @@ mod calls {
     const DEPTHS: [u8; 8] = [0x01, 0x13, 0x05, 0x7f, 0xd0, 0x00, 0x02, 0x00];
     const TWO: [u8; 9] = [0x02, 0x12, 0x02, 0x13, 0x02, 0x02, 0x05, 0x7f, 0x05];
 
+    /// The most readings that these tests hold.
+    const MOST: usize = 8;
+
+    /// 4,294,967,295 readings of 5; so many absent ones; so many of no.
+    const FIVES: [u8; 6] = [0xff, 0xff, 0xff, 0xff, 0x0f, 0x05];
+    const GAP: [u8; 6] = [0x00, 0xff, 0xff, 0xff, 0xff, 0x0f];
+    const FLAGS: [u8; 5] = [0xff, 0xff, 0xff, 0xff, 0x0f];
+
     fn refused<T>(number: u8, place: usize) -> Result<T, Refusal> {
         Err(Refusal { number, place })
+    }
+
+    /// A list, as `decode` gives it.
+    fn whole<T>(readings: impl Iterator<Item = Result<T, Refusal>>) -> Result<Vec<T>, Refusal> {
+        readings.collect()
     }
 
     #[test]
@@ -53,24 +66,77 @@ mod calls {
     #[test]
     fn columns() {
         assert_eq!(
-            rle::decode(&[0x00, 0x02, 0x03, 0x05]),
+            rle::decode(&[0x00, 0x02, 0x03, 0x05], MOST),
             Ok(vec![None, None, Some(5), Some(5), Some(5)])
         );
-        assert_eq!(rle::decode(&[0x7d, 0x01, 0x02]), refused(21, 3));
-        assert_eq!(rle::decode(&[0x7d, 0x01, 0x82]), refused(1, 2));
+        assert_eq!(rle::decode(&[0x7d, 0x01, 0x02], MOST), refused(21, 3));
+        assert_eq!(rle::decode(&[0x7d, 0x01, 0x82], MOST), refused(1, 2));
         assert_eq!(rle::count(&[0x02]), refused(21, 1));
         assert_eq!(rle::encode(&[Some(1), Some(2), Some(2)]), Ok(vec![0x7f, 0x01, 0x02, 0x02]));
         assert_eq!(rle::encode(&[None, None]), Ok(vec![]));
         assert_eq!(
-            delta::decode(&[0x7f, 0x05, 0x00, 0x01, 0x7f, 0x01]),
+            delta::decode(&[0x7f, 0x05, 0x00, 0x01, 0x7f, 0x01], MOST),
             Ok(vec![Some(5), None, Some(6)])
         );
         assert_eq!(delta::encode(&[Some(80); 3]), Ok(vec![0x7f, 0xd0, 0x00, 0x02, 0x00]));
         assert_eq!(delta::encoded_len(&[Some(i64::MAX), Some(-2)]), refused(7, 1));
-        assert_eq!(boolean::decode(&[0x00, 0x01, 0x02]), Ok(vec![true, false, false]));
+        assert_eq!(boolean::decode(&[0x00, 0x01, 0x02], MOST), Ok(vec![true, false, false]));
         assert_eq!(boolean::encode(&[false, false]), Ok(vec![0x02]));
         assert_eq!(boolean::maybe_encode(&[false, false]), Ok(vec![]));
         assert_eq!(boolean::encode(&[]), Ok(vec![]));
+    }
+
+    #[test]
+    fn readings() {
+        let mut optional = rle::readings(&[0x00, 0x01, 0x02, 0x05]);
+        assert_eq!(whole(optional.by_ref()), Ok(vec![None, Some(5), Some(5)]));
+        assert_eq!((optional.next(), optional.read(), optional.read()), (None, None, None));
+        assert_eq!(rle::readings(&[]).next(), None);
+        let depths = delta::readings(&[0x7f, 0x05, 0x00, 0x01, 0x7f, 0x01]);
+        assert_eq!(whole(depths), Ok(vec![Some(5), None, Some(6)]));
+        assert_eq!(whole(boolean::readings(&[0x00, 0x01, 0x02])), Ok(vec![true, false, false]));
+        assert_eq!(whole(rle::readings(&[0x7d, 0x01, 0x02])), refused(21, 3));
+    }
+
+    #[test]
+    fn readings_of_a_cut_column() {
+        let cut = rle::readings(&[0x7d, 0x01, 0x02]);
+        assert_eq!(cut.clone().collect::<Vec<_>>(), [Ok(Some(1)), Ok(Some(2)), refused(21, 3)]);
+        let mut iterated = cut.clone().skip(3);
+        assert_eq!((iterated.next(), iterated.next()), (None, None));
+        let mut asked = cut.clone();
+        assert_eq!((asked.read(), asked.read()), (Some(Ok(Some(1))), Some(Ok(Some(2)))));
+        for _ in 0..3 {
+            assert_eq!(asked.read(), Some(refused(21, 3)));
+        }
+        assert_eq!((asked.next(), asked.next()), (Some(refused(21, 3)), None));
+        assert_eq!(asked.read(), Some(refused(21, 3)));
+        assert_eq!(
+            delta::readings(&[0x02, 0x80, 0x80, 0x80, 0x80, 0x80, 0x80, 0x80, 0x80, 0xc0, 0x00]).collect::<Vec<_>>(),
+            [Ok(Some(1 << 62)), refused(6, 1)]
+        );
+        assert_eq!(boolean::readings(&[0x01, 0x80]).collect::<Vec<_>>(), [Ok(false), refused(1, 1)]);
+    }
+
+    #[test]
+    fn more_than_the_caller_will_hold() {
+        assert_eq!((rle::count(&FIVES), boolean::count(&FLAGS)), (Ok(4_294_967_295), Ok(4_294_967_295)));
+        assert_eq!(rle::decode(&FIVES, MOST), refused(9, 0));
+        assert_eq!(rle::decode(&[0x08, 0x05], 8), Ok(vec![Some(5); 8]));
+        assert_eq!(rle::decode(&[0x08, 0x05], 7), refused(9, 0));
+        assert_eq!(rle::decode(&[0x09, 0x05, 0x02], MOST), refused(21, 3));
+        assert_eq!(delta::decode(&GAP, MOST), refused(9, 0));
+        assert_eq!(boolean::decode(&FLAGS, MOST), refused(9, 0));
+        assert_eq!(rle::readings(&FIVES).take(1_000).filter(|r| *r == Ok(Some(5))).count(), 1_000);
+        assert_eq!(delta::readings(&GAP).take(1_000).filter(|r| *r == Ok(None)).count(), 1_000);
+        let integers = [&[0x01, 0x12, 0x06][..], &FIVES].concat();
+        assert_eq!(splice::splice_integer(&integers, 0, 0, 1, &[], MOST), refused(9, 0));
+        assert_eq!(splice::splice_integer(&integers, 0, 1, 0, &[], MOST), refused(18, 0));
+        assert_eq!(splice::splice_integer_to_end(&integers, 0, 0, &[], MOST), refused(9, 0));
+        assert_eq!(splice::splice_delta(&DEPTHS, 0, 0, 0, &[None; 5], MOST).unwrap().list.len(), 8);
+        assert_eq!(splice::splice_delta(&DEPTHS, 0, 0, 0, &[None; 6], MOST), refused(9, 0));
+        let flags = [&[0x01, 0x14, 0x05][..], &FLAGS].concat();
+        assert_eq!(splice::splice_boolean(&flags, 0, 0, 1, &[], MOST), refused(9, 0));
     }
 
     #[test]
@@ -93,29 +159,32 @@ mod calls {
 
     #[test]
     fn edits() {
-        let edit = splice::splice_delta(&DEPTHS, 0, 1, 2, &[Some(81)]).unwrap();
+        let edit = splice::splice_delta(&DEPTHS, 0, 1, 2, &[Some(81)], MOST).unwrap();
         assert_eq!(edit.block, [0x01, 0x13, 0x05, 0x7d, 0xd0, 0x00, 0x01, 0x7f]);
         assert_eq!(edit.list, [Some(80), Some(81), Some(80)]);
-        assert_eq!(splice::splice_delta(&DEPTHS, 0, 1, 2, &[Some(i64::MAX), Some(-2)]), refused(7, 2));
-        assert_eq!(splice::splice_integer(&DEPTHS, 0, 0, 1, &[]), refused(17, 0));
-        assert_eq!(splice::splice_integer(&TWO, 0, 3, 4, &[]), refused(18, 0));
-        assert_eq!(splice::splice_integer(&TWO, 0, 0, usize::MAX, &[]), refused(18, 0));
-        let emptied = splice::splice_integer_to_end(&TWO, 0, 0, &[]).unwrap();
+        assert_eq!(
+            splice::splice_delta(&DEPTHS, 0, 1, 2, &[Some(i64::MAX), Some(-2)], MOST),
+            refused(7, 2)
+        );
+        assert_eq!(splice::splice_integer(&DEPTHS, 0, 0, 1, &[], MOST), refused(17, 0));
+        assert_eq!(splice::splice_integer(&TWO, 0, 3, 4, &[], MOST), refused(18, 0));
+        assert_eq!(splice::splice_integer(&TWO, 0, 0, usize::MAX, &[], MOST), refused(18, 0));
+        let emptied = splice::splice_integer_to_end(&TWO, 0, 0, &[], MOST).unwrap();
         assert_eq!(
             (emptied.block.as_slice(), emptied.list.len()),
             (&[0x02, 0x12, 0x00, 0x13, 0x02, 0x7f, 0x05][..], 0)
         );
-        let flags = splice::splice_boolean(&[0x01, 0x14, 0x03, 0x00, 0x01, 0x02], 0, 0, 1, &[false]).unwrap();
+        let flags = splice::splice_boolean(&[0x01, 0x14, 0x03, 0x00, 0x01, 0x02], 0, 0, 1, &[false], MOST).unwrap();
         assert_eq!(
             (flags.block.as_slice(), flags.list.as_slice()),
             (&[0x01, 0x14, 0x01, 0x03][..], &[false; 3][..])
         );
         assert_eq!(
-            splice::splice_delta_to_end(&DEPTHS, 0, 1, &[Some(81)]).unwrap().list,
+            splice::splice_delta_to_end(&DEPTHS, 0, 1, &[Some(81)], MOST).unwrap().list,
             [Some(80), Some(81)]
         );
         assert_eq!(
-            splice::splice_boolean_to_end(&[0x01, 0x14, 0x03, 0x00, 0x01, 0x02], 0, 4, &[]),
+            splice::splice_boolean_to_end(&[0x01, 0x14, 0x03, 0x00, 0x01, 0x02], 0, 4, &[], MOST),
             refused(18, 0)
         );
     }

@@ -15,7 +15,7 @@ use Rattle.encoding.specs.Limit.{limit}
 use Rattle.encoding.specs.Given.{badFlag}
 use Rattle.encoding.specs.Walk.{Run, Next, over, on, off, Trace, walk, after}
 use Rattle.encoding.proofs.Lists.{cond-by}
-use Rattle.boolean_decoder.specs.Turns.{Turn, turn, counted, turnAt, boolTrace}
+use Rattle.boolean_decoder.specs.Turns.{Turn, turn, counted, turnAt, turnsFrom, boolTrace}
 
 abbrev pub Clean : List ℕ → Type 0
 Clean xs = (i : ℕ) → badFlag i xs ≡ none
@@ -101,5 +101,5 @@ walk-clean s (suc f) st h =
     onward-clean (turnAt s st .readings) (turnAt s st .next) _ (r .0) (r .1) (λ z l. walk-clean s f z l)
 
 pub read-clean : (s : List ℕ) → Clean (boolTrace s .readings)
-unfolding boolTrace
-read-clean s = walk-clean s (length s) (turn 0 0 0) (omega arith)
+unfolding boolTrace turnsFrom
+read-clean s = walk-clean s (length s - 0) (turn 0 0 0) (omega arith)

@@ -12,7 +12,7 @@ use Rattle.encoding.specs.Limit.{limit}
 use Rattle.encoding.specs.Walk.{Run}
 use Rattle.encoding.proofs.Lists.{cond-by}
 use Rattle.encoding.proofs.Faults.{Numbered, SomeOff, walk-numbered}
-use Rattle.boolean_decoder.specs.Turns.{Turn, turn, counted, turnAt, boolTrace}
+use Rattle.boolean_decoder.specs.Turns.{Turn, turn, counted, turnAt, turnsFrom, boolTrace}
 
 abbrev SomeCut : Run ℕ Turn → Type 0
 SomeCut r = SomeOff (r .next)
@@ -27,5 +27,5 @@ unfolding turnAt
 turn-some s st = cond-by SomeCut (ltb (st .at) (length s)) (λ h. counted-some s st (u64At s (st .at)) refl) (λ h. tt)
 
 pub boolean-numbered : (s : List ℕ) → Numbered (boolTrace s .ending)
-unfolding boolTrace
-boolean-numbered s = walk-numbered (turnAt s) (turn-some s) (length s) (turn 0 0 0)
+unfolding turnsFrom boolTrace
+boolean-numbered s = walk-numbered (turnAt s) (turn-some s) _ (turn 0 0 0)

@@ -12,10 +12,10 @@ use Rattle.leb128.specs.Got.{Got, got, bad}
 use Rattle.leb128.specs.Read.{u64At}
 use Rattle.leb128.proofs.Laws.{u64-next}
 use Rattle.encoding.specs.Limit.{limit}
-use Rattle.encoding.specs.Walk.{Run, Next, over, on, off, whole, cut, stop, walk, outcome}
+use Rattle.encoding.specs.Walk.{Run, Next, over, on, off, whole, cut, stop, onward, outcome}
 use Rattle.encoding.proofs.Lists.{cond-by}
-use Rattle.encoding.proofs.Walking.{Machine, rest, owes, owes-start, owes-over, next-eq, readings-eq}
-use Rattle.boolean_decoder.specs.Turns.{Turn, turn, counted, turnAt, boolTrace}
+use Rattle.encoding.proofs.Walking.{Machine, rest, rest-is, owes, owes-start, owes-over, next-eq, readings-eq}
+use Rattle.boolean_decoder.specs.Turns.{Turn, turn, counted, turnAt, turnsFrom, boolTrace}
 
 -- ---- a count by how it reads
 
@@ -104,8 +104,13 @@ turns s =
     }
 
 pub trace-rest : (s : List ℕ) → boolTrace s ≡ rest (turns s) (turn 0 0 0)
-unfolding boolTrace rest
-trace-rest s = let e : length s ≡ length s - 0 = omega arith in ap (λ (f : ℕ). walk (turnAt s) f (turn 0 0 0)) e
+unfolding boolTrace turnsFrom rest
+trace-rest s = refl
+
+-- what comes from a state on is the count there, and then what comes behind it
+pub turns-on : (s : List ℕ) (st : Turn) → turnsFrom s st ≡ onward (turnAt s st) (λ z. turnsFrom s z)
+unfolding turnsFrom rest
+turns-on s st = rest-is (turns s) st (turnAt s st .next) refl
 
 -- what counting the readings owes, at the start and where the bytes end
 pub owes-trace : (s : List ℕ) → outcome (boolTrace s) ≡ owes (turns s) (turn 0 0 0)

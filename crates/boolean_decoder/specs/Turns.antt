@@ -28,6 +28,9 @@ counted st (bad number place) = cut number place
 unfoldable pub turnAt : List ℕ → Turn → Run ℕ Turn
 turnAt s st = cond (ltb (st .at) (length s)) (counted st (u64At s (st .at))) stop
 
--- the whole column; "an empty column is an empty list"
+-- the rest of a column from a state on, and the whole column; "an empty column is an empty list"
+unfoldable pub turnsFrom : List ℕ → Turn → Trace ℕ
+turnsFrom s st = walk (turnAt s) (length s - st .at) st
+
 unfoldable pub boolTrace : List ℕ → Trace ℕ
-boolTrace s = walk (turnAt s) (length s) (turn 0 0 0)
+boolTrace s = turnsFrom s (turn 0 0 0)

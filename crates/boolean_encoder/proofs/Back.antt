@@ -22,7 +22,7 @@ use Rattle.encoding.proofs.Elements.{Stands, stands-left, stands-right, stands-
 use Rattle.encoding.proofs.Lists.{cond-by}
 use Rattle.encoding.proofs.Walking.{rest, rest-is, next-eq, readings-eq}
 use Rattle.boolean_encoder.specs.Ahead.{Flags}
-use Rattle.boolean_decoder.specs.Turns.{turn, turnAt, boolTrace}
+use Rattle.boolean_decoder.specs.Turns.{turn, turnAt, turnsFrom, boolTrace}
 use Rattle.boolean_encoder.specs.Writer.{addOne, counts, countsBytes, boolBytes, maybeBytes}
 use Rattle.boolean_encoder.proofs.Counting.{flags-tail}
 use Rattle.boolean_decoder.proofs.Turning.{turns, trace-rest, counted-whole, turn-read, turn-end}
@@ -104,7 +104,7 @@ some-true xs e = rw e
 
 -- no bytes read soundly as the empty list
 pub nothing-reads : boolTrace [] ≡ record { readings = []; ending = sound }
-unfolding boolTrace turnAt walk
+unfolding boolTrace turnsFrom turnAt walk
 nothing-reads = refl
 
 -- with no value true a list of so many zeros, which its length alone gives back

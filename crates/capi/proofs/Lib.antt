@@ -1,2 +1,3 @@
 -- What follows from the contracts.
+pub mod Nth
 pub mod One

@@ -6,8 +6,12 @@ ghost use Rattle.leb128_writer.specs.Cases.{writtenOf};
 ghost use Rattle.column_specification.specs.Cases.{packingOf};
 ghost use Rattle.encoding.specs.Cases.{answerOf};
 ghost use Rattle.capi.specs.Cases.{numberU64, numberI64, numberU32, counted, specification, tableAs, openedAs, partAs, frameAs, splicedAs};
+ghost use Rattle.capi.specs.Cursors.{nextU64, nextI64, nextU8};
 use crate::Counted;
 use crate::Frame;
+use crate::NextI64;
+use crate::NextU8;
+use crate::NextU64;
 use crate::NumberI64;
 use crate::NumberU32;
 use crate::NumberU64;
@@ -16,12 +20,24 @@ use crate::Part;
 use crate::Specification;
 use crate::Spliced;
 use crate::Table;
+use boolean_cursor::BooleanAnswer;
 use column_specification::Packed;
+use delta_cursor::DeltaAnswer;
 use encoding::Answer;
 use leb128::ParsedI64;
 use leb128::ParsedU32;
 use leb128::ParsedU64;
 use leb128_writer::Written;
+use rle_cursor::RleAnswer;
+
+// What comes next in a column; NOTHING in a refusal.
+const NOTHING: u8 = 0;
+
+const PRESENT: u8 = 1;
+
+const ABSENT: u8 = 2;
+
+const END: u8 = 3;
 
 pub(crate) fn number_u64(p: ParsedU64) -> NumberU64
     ensures { λ r. ⌜ r ≡ numberU64 (u64Of p) ⌝ }
@@ -115,6 +131,93 @@ pub(crate) fn written(w: Written) -> Counted
     match w {
         Written::Next(next) => accepted(next as u64),
         Written::Refused(n, place) => refused(n, place),
+    }
+}
+
+pub(crate) fn next_u64(a: RleAnswer) -> NextU64
+    ensures { λ r. ⌜ r ≡ nextU64 a ⌝ }
+{
+    match a {
+        RleAnswer::Present(v) => NextU64 {
+            number: 0,
+            what: PRESENT,
+            place: 0,
+            value: v,
+        },
+        RleAnswer::Absent => NextU64 {
+            number: 0,
+            what: ABSENT,
+            place: 0,
+            value: 0,
+        },
+        RleAnswer::End => NextU64 {
+            number: 0,
+            what: END,
+            place: 0,
+            value: 0,
+        },
+        RleAnswer::Refused(n, place) => NextU64 {
+            number: n,
+            what: NOTHING,
+            place: place,
+            value: 0,
+        },
+    }
+}
+
+pub(crate) fn next_i64(a: DeltaAnswer) -> NextI64
+    ensures { λ r. ⌜ r ≡ nextI64 a ⌝ }
+{
+    match a {
+        DeltaAnswer::Present(v) => NextI64 {
+            number: 0,
+            what: PRESENT,
+            place: 0,
+            value: v,
+        },
+        DeltaAnswer::Absent => NextI64 {
+            number: 0,
+            what: ABSENT,
+            place: 0,
+            value: 0,
+        },
+        DeltaAnswer::End => NextI64 {
+            number: 0,
+            what: END,
+            place: 0,
+            value: 0,
+        },
+        DeltaAnswer::Refused(n, place) => NextI64 {
+            number: n,
+            what: NOTHING,
+            place: place,
+            value: 0,
+        },
+    }
+}
+
+pub(crate) fn next_u8(a: BooleanAnswer) -> NextU8
+    ensures { λ r. ⌜ r ≡ nextU8 a ⌝ }
+{
+    match a {
+        BooleanAnswer::Present(v) => NextU8 {
+            number: 0,
+            what: PRESENT,
+            place: 0,
+            value: v,
+        },
+        BooleanAnswer::End => NextU8 {
+            number: 0,
+            what: END,
+            place: 0,
+            value: 0,
+        },
+        BooleanAnswer::Refused(n, place) => NextU8 {
+            number: n,
+            what: NOTHING,
+            place: place,
+            value: 0,
+        },
     }
 }
 

@@ -1,4 +1,4 @@
-// Edits of a column in its block, and of a list in slots.
+// Edits of a range of a column in its block, and of a list in slots.
 ghost use mathlib.Core.Path.{_≡_};
 ghost use lib.IntN.{pos};
 ghost use lib.ListN.{length};
@@ -41,33 +41,6 @@ pub extern "C" fn grundavok_splice_integer(
 }
 
 #[no_mangle]
-pub extern "C" fn grundavok_splice_integer_to_end(
-    block: &[u8],
-    position: usize,
-    start: usize,
-    new_values: &[u64],
-    new_present: &[u8],
-    values: &mut [u64],
-    present: &mut [u8],
-    out: &mut [u8],
-) -> Spliced
-    ensures { λ r. ⌜ ToldEdit (OptionalSpliced integer 0 (now (block .entry)) position start End.OfList (now («new_values» .entry)) (now («new_present» .entry))
-        (now (values .entry)) (now (values .exit)) (now (present .entry)) (now (present .exit)) (now (out .entry)) (now (out .exit))) r ⌝ }
-{
-    answers::spliced(rle_range::splice_integer(
-        block,
-        position,
-        start,
-        End::OfList,
-        new_values,
-        new_present,
-        values,
-        present,
-        out,
-    ))
-}
-
-#[no_mangle]
 pub extern "C" fn grundavok_splice_delta(
     block: &[u8],
     position: usize,
@@ -96,33 +69,6 @@ pub extern "C" fn grundavok_splice_delta(
 }
 
 #[no_mangle]
-pub extern "C" fn grundavok_splice_delta_to_end(
-    block: &[u8],
-    position: usize,
-    start: usize,
-    new_values: &[i64],
-    new_present: &[u8],
-    values: &mut [i64],
-    present: &mut [u8],
-    out: &mut [u8],
-) -> Spliced
-    ensures { λ r. ⌜ ToldEdit (OptionalSpliced delta (pos 0) (now (block .entry)) position start End.OfList (now («new_values» .entry)) (now («new_present» .entry))
-        (now (values .entry)) (now (values .exit)) (now (present .entry)) (now (present .exit)) (now (out .entry)) (now (out .exit))) r ⌝ }
-{
-    answers::spliced(delta_range::splice_delta(
-        block,
-        position,
-        start,
-        End::OfList,
-        new_values,
-        new_present,
-        values,
-        present,
-        out,
-    ))
-}
-
-#[no_mangle]
 pub extern "C" fn grundavok_splice_boolean(
     block: &[u8],
     position: usize,
@@ -140,29 +86,6 @@ pub extern "C" fn grundavok_splice_boolean(
         position,
         start,
         End::At(end),
-        new_values,
-        values,
-        out,
-    ))
-}
-
-#[no_mangle]
-pub extern "C" fn grundavok_splice_boolean_to_end(
-    block: &[u8],
-    position: usize,
-    start: usize,
-    new_values: &[u8],
-    values: &mut [u8],
-    out: &mut [u8],
-) -> Spliced
-    ensures { λ r. ⌜ ToldEdit (BooleanSpliced boolean (now (block .entry)) position start End.OfList (now («new_values» .entry))
-        (now (values .entry)) (now (values .exit)) (now (out .entry)) (now (out .exit))) r ⌝ }
-{
-    answers::spliced(boolean_range::splice_boolean(
-        block,
-        position,
-        start,
-        End::OfList,
         new_values,
         values,
         out,

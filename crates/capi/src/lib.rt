@@ -2,7 +2,9 @@
 // and a length. Thin: every function calls one of the library and passes its answer on. include/grundavok.h says the same in C.
 mod answers;
 mod columns;
+mod cursors;
 mod edits;
+mod edits_to_end;
 mod numbers;
 mod specifications;
 mod tables;
@@ -39,6 +41,32 @@ pub struct Counted {
     pub number: u8,
     pub place: usize,
     pub count: u64,
+}
+
+// What comes next in a column that is read a reading at a time: `what` is 1 for a present reading, which has a value, 2 for an absent one and
+// 3 for the end of the column. A refusal has 0 there, as everywhere, so it cannot be taken for the end.
+#[repr(C)]
+pub struct NextU64 {
+    pub number: u8,
+    pub what: u8,
+    pub place: usize,
+    pub value: u64,
+}
+
+#[repr(C)]
+pub struct NextI64 {
+    pub number: u8,
+    pub what: u8,
+    pub place: usize,
+    pub value: i64,
+}
+
+#[repr(C)]
+pub struct NextU8 {
+    pub number: u8,
+    pub what: u8,
+    pub place: usize,
+    pub value: u8,
 }
 
 #[repr(C)]

@@ -13,13 +13,13 @@ use Rattle.leb128.specs.Got.{Got, got, bad}
 use Rattle.leb128.specs.Read.{u64At, i64At}
 use Rattle.leb128.proofs.Laws.{u64-next, i64-next}
 use Rattle.encoding.specs.Limit.{limit}
-use Rattle.encoding.specs.Walk.{Run, Next, over, on, off, stop, whole, cut}
+use Rattle.encoding.specs.Walk.{Run, Next, over, on, off, stop, whole, cut, onward}
 use Rattle.encoding.specs.Element.{Element}
 use Rattle.encoding.specs.Head.{Head, amiss, judged, absentHead, begun, headAt}
 use Rattle.encoding.specs.Column.{Reading, present, Spot, spot, repeated, ahead, literalNext, literals, runOf, runAt, traceFrom, trace}
 use Rattle.encoding.proofs.Lists.{cond-by}
 use Rattle.encoding.proofs.Elements.{ElementLaws}
-use Rattle.encoding.proofs.Walking.{Machine, rest}
+use Rattle.encoding.proofs.Walking.{Machine, rest, rest-is}
 
 -- a value that is read takes a byte at least, and lies within
 abbrev Near : {A : Type 0} → ℕ → ℕ → Got A → Type 0
@@ -133,6 +133,11 @@ module _ {A : Type 0} (E : Element A) (L : ElementLaws E) (s : List ℕ) where
   pub trace-rest : trace E s ≡ rest columns (spot 0 0)
   unfolding trace traceFrom rest
   trace-rest = refl
+
+  -- what comes from a state on is the run there, and then what comes behind it
+  pub trace-on : (st : Spot) → traceFrom E s st ≡ onward (runAt E s st) (λ z. traceFrom E s z)
+  unfolding traceFrom rest
+  trace-on st = rest-is columns st (runAt E s st .next) refl
 
 -- ---- a run by how it begins
 

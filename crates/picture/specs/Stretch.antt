@@ -1,5 +1,5 @@
 -- What is known of a stretch of readings. Readings are two lists: their values, and bytes that are 0 where a reading is absent.
-use Prim.Native.Nat.{ℕ, suc, _+_, _*_, min, max}
+use Prim.Native.Nat.{ℕ, suc, _+_, _-_, _*_, _^_, min, max}
 use mathlib.Core.Bool.{cond}
 use mathlib.Core.List.{List, [], _∷_, foldl}
 use lib.Dec.{eqb, leb}
@@ -34,6 +34,27 @@ shown xs gone = record { low = leastOf xs; high = greatestOf xs; here = length x
 -- the same of readings
 abbrev pub known : List ℕ → List ℕ → Stretch
 known vs ps = shown (presentOf vs ps) (absentIn ps)
+
+-- a count with one more; no count passes 64 bits
+abbrev pub oneMore : ℕ → ℕ
+oneMore n = min (n + 1) (2 ^ 64 - 1)
+
+-- a stretch with one value more; the first is both the least and the greatest
+unfoldable pub withValue : Stretch → ℕ → Stretch
+withValue s v =
+    cond (eqb (s .here) 0) (record { low = v; high = v; here = 1; gone = s .gone })
+    (record { low = min (s .low) v; high = max (s .high) v; here = oneMore (s .here); gone = s .gone })
+
+-- a stretch with one reading more, present where its byte is not 0
+unfoldable pub withReading : Stretch → ℕ → ℕ → Stretch
+withReading s v p =
+    cond (eqb p 0) (record { low = s .low; high = s .high; here = s .here; gone = oneMore (s .gone) }) (withValue s v)
+
+-- readings fed one after the other to what is known
+unfoldable pub fed : Stretch → List ℕ → List ℕ → Stretch
+fed s [] ps = s
+fed s (v ∷ vs) [] = s
+fed s (v ∷ vs) (p ∷ ps) = fed (withReading s v p) vs ps
 
 -- the readings from a up to e; nothing is known where a list has not so many
 unfoldable pub stretchOf : List ℕ → List ℕ → ℕ → ℕ → Stretch

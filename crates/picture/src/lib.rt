@@ -8,8 +8,8 @@ pub use scales::apart;
 pub use scales::depth_of;
 pub use scales::scale_for;
 pub use shades::shade_at;
-pub use stretches::stretch_at;
-pub use stretches::stretch_of;
+pub use stretches::nothing;
+pub use stretches::with_reading;
 
 // The least and the greatest of the present readings of a stretch, and how many are present and absent.
 pub struct Stretch {

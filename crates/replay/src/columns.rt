@@ -7,6 +7,7 @@ use crate::fields::Verdict;
 use crate::fields::is_known;
 use crate::integers;
 use crate::rooms;
+use crate::walks;
 use encoding::Answer;
 
 // The families' calls by name: with little room, and where the line is then no record, with much.
@@ -73,7 +74,25 @@ fn run_in(
     if is_known(v) {
         return v;
     }
-    deltas::run(name, line, c, signed, present, bytes, recorded)
+    run_rest(name, line, c, values, signed, present, bytes, recorded)
+}
+
+// The same, of the others: what four families in a row are lent is more than the prover follows.
+fn run_rest(
+    name: &[u8],
+    line: &[u8],
+    c: Cursor,
+    values: &mut [u64],
+    signed: &mut [i64],
+    present: &mut [u8],
+    bytes: &mut [u8],
+    recorded: &mut [u8],
+) -> Verdict {
+    let v = deltas::run(name, line, c, signed, present, bytes, recorded);
+    if is_known(v) {
+        return v;
+    }
+    walks::run(name, line, c, values, present, bytes)
 }
 
 // NUMBER PLACE COUNT, or LENGTH for COUNT

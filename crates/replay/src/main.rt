@@ -16,8 +16,10 @@ mod numbers;
 mod rooms;
 mod signed;
 mod specifications;
+mod states;
 mod tables;
 mod text;
+mod walks;
 
 use fields::Cursor;
 use fields::Verdict;

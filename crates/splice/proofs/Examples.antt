@@ -17,7 +17,7 @@ use Rattle.encoding.specs.Stretches.{literalOf, joinNone, joinSome, stretches}
 use Rattle.encoding.specs.Writer.{allBytes, stretchBytes, stretchesBytes, anyPresent, columnBytes}
 use Rattle.delta_decoder.specs.Sums.{heldSum, added, addUp, deltaTrace}
 use Rattle.delta_encoder.specs.Differences.{differences, deltaBytes, wideAt}
-use Rattle.boolean_decoder.specs.Turns.{counted, turnAt, boolTrace}
+use Rattle.boolean_decoder.specs.Turns.{counted, turnAt, turnsFrom, boolTrace}
 use Rattle.boolean_encoder.specs.Writer.{addOne, counts, countsBytes, boolBytes}
 use Rattle.raw_column.specs.Table.{rowsAt, inOrder, plain, sum, parse}
 use Rattle.block_frame.specs.Columns.{cut, joined, rowsBytes, tableBytes, blockBytes, newBlock}
@@ -60,7 +60,7 @@ pub record Examples : Type 0 where
 pub examples : Examples
 unfolding u64At i64At u32At encoded walk outcome outcomeOf absentHead begun headAt value repeated literalNext literals runOf runAt traceFrom trace
     literalOf joinNone joinSome stretches allBytes stretchBytes stretchesBytes anyPresent columnBytes heldSum added addUp deltaTrace
-    differences deltaBytes wideAt counted turnAt boolTrace addOne counts countsBytes boolBytes rowsAt inOrder plain sum parse cut
+    differences deltaBytes wideAt counted turnAt turnsFrom boolTrace addOne counts countsBytes boolBytes rowsAt inOrder plain sum parse cut
     joined rowsBytes tableBytes blockBytes newBlock slotList badFlag serves givenOptional edited
 examples =
     record {

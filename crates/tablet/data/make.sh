@@ -3,6 +3,7 @@
 # wedge.block and stroke.block are made by the tool itself. cut.block is what a copy that broke off leaves, here inside a number;
 # cut-between.block ends between two numbers of a run, and cut-behind.block behind a run. In torn.block someone "mended" the
 # table of such a copy: its lengths fit again, and the first column still ends inside a number.
+# long.block has columns of many readings in few bytes: 72,500 depths and as many booleans, and 4,294,967,295 times the number 5.
 # refusals/NN.block is a small block for refusal NN of documents 01 and 02.
 set -eu
 cd "$(dirname "$0")"
@@ -12,6 +13,13 @@ head -c 55 wedge.block >cut.block
 head -c 54 wedge.block >cut-between.block
 head -c 53 wedge.block >cut-behind.block
 { printf '\003\023\060\044\005\062\006'; tail -c +8 wedge.block | head -c 48; tail -c 11 wedge.block; } >torn.block
+{
+    printf '\003\023\046\044\012\062\006'
+    printf '\340\335\000\000\330\004\001\200\375\000\000\000\270\027\250\306\000\000\254\002\176'
+    printf '\370\325\000\000\226\001\003\300\076\000\302\003\177\340\335\000\000'
+    printf '\214\140\260\352\001\240\234\001\330\117'
+    printf '\377\377\377\377\017\005'
+} >long.block
 cd refusals
 printf '\003\023\350' >01.block
 printf '\001\062\013\001\377\377\377\377\377\377\377\377\377\002' >02.block

@@ -1,17 +1,10 @@
 // An edit of a block by the splice of its column's kind, with readings as `decimal` keeps them.
+use crate::kept;
 use crate::kinds::Kind;
-use crate::load;
+use crate::range::Range;
 use crate::rooms;
 use crate::text::between;
-use splice::End;
 use splice::Spliced;
-
-// The column and the range that an edit replaces.
-pub struct Range {
-    pub position: usize,
-    pub start: usize,
-    pub end: End,
-}
 
 // How long the new block is, or a refusal's number and place. The number is 0 where there is none.
 pub struct Edited {
@@ -64,7 +57,7 @@ fn signed(block: &[u8], r: Range, new: &[i64], new_present: &[u8], out: &mut [u8
 
 fn signed_of(block: &[u8], r: Range, new: &[u64], new_present: &[u8], out: &mut [u8]) -> Edited {
     let mut meant = rooms::signed();
-    load::mean_all(new, &mut meant);
+    kept::mean_all(new, &mut meant);
     signed(
         block,
         r,
@@ -77,7 +70,7 @@ fn signed_of(block: &[u8], r: Range, new: &[u64], new_present: &[u8], out: &mut 
 fn yes_no(block: &[u8], r: Range, new: &[u64], out: &mut [u8]) -> Edited {
     let mut values = rooms::flags();
     let mut flags = rooms::flags();
-    load::narrow_all(new, &mut flags);
+    kept::narrow_all(new, &mut flags);
     let given = between(&flags, 0, new.len());
     let end = r.end;
     of_spliced(boolean_range::splice_boolean(

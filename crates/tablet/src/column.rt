@@ -96,6 +96,18 @@ pub fn say_refused(path: &[u8], position: usize, number: u8, place: usize, desk:
     pen::text(refusals::say(p, number, place), b"\n");
 }
 
+// A column of n readings, more than are walked, said as a note.
+pub fn say_long(path: &[u8], position: usize, n: u64, desk: Desk) {
+    pen::form(
+        files::about(path, desk),
+        b"column %: it announces % readings, and at most 10,000,000 are listed or drawn\n",
+        position as u64,
+        n,
+        0,
+        0,
+    );
+}
+
 // A refusal of a file's table, said as a note; where the file ends too early, where that is.
 pub fn say_table_refused(path: &[u8], block: &[u8], number: u8, place: usize, desk: Desk) {
     let p = refusals::say_of_table(files::about(path, desk), number, place);

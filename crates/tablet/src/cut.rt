@@ -1,10 +1,10 @@
 // A block whose file ends inside a column: which one, and where. The table itself reads; only its data are short.
 use crate::kinds;
-use crate::load;
 use crate::pen;
 use crate::pen::Pen;
 use crate::refusals;
 use crate::text::between;
+use crate::walk;
 use encoding::Answer;
 use leb128::ParsedU32;
 use leb128::ParsedU64;
@@ -157,7 +157,7 @@ fn say_fault(p: Pen, block: &[u8], c: Cut) -> Pen {
     let start = c.start;
     let part = between(block, start, block.len());
     let q = pen::form(p, b"  column %: ", c.position, 0, 0, 0);
-    match load::count(part, kinds::of_spec(c.spec)) {
+    match walk::count(part, kinds::of_spec(c.spec)) {
         Answer::Done(_) => pen::text(
             q,
             b"the bytes end between numbers; none of its readings is certain\n",

@@ -6,15 +6,16 @@ use crate::files;
 use crate::help;
 use crate::kinds;
 use crate::kinds::Kind;
-use crate::load;
 use crate::numbers;
 use crate::pen;
 use crate::pen::Desk;
 use crate::pen::Pen;
+use crate::places;
 use crate::rooms;
 use crate::svg;
 use crate::terminal;
 use crate::text::between;
+use crate::walk;
 use crate::words;
 use decimal::HALF;
 use encoding::Answer;
@@ -101,94 +102,118 @@ fn end(out: &[u8], p: Pen, desk: Desk) -> bool {
     false
 }
 
+// A column of n readings that reads, of which `all` is known.
 fn draw_readings(
-    fd: i32,
-    terminal: bool,
     path: &[u8],
     s: Subject,
-    values: &[u64],
-    present: &[u8],
-) -> Pen {
-    if terminal {
-        return terminal::picture(pen::on(fd), path, s, values, present);
-    }
-    svg::picture(pen::on(fd), path, s, values, present)
-}
-
-// A column that does not read is drawn as a break.
-fn draw_break(fd: i32, terminal: bool, path: &[u8], s: Subject, number: u8, place: usize) -> Pen {
-    if terminal {
-        return terminal::fracture(pen::on(fd), path, s, number, place);
-    }
-    svg::fracture(pen::on(fd), path, s, number, place)
-}
-
-// What was drawn, and the refusal, where there was one.
-struct Drawn {
-    pen: Pen,
-    number: u8,
-    place: usize,
-}
-
-fn draw_part(fd: i32, terminal: bool, path: &[u8], s: Subject, part: &[u8]) -> Drawn {
-    let mut values = rooms::unsigned();
-    let mut present = rooms::flags();
-    match load::load(part, kinds::of_spec(s.spec), &mut values, &mut present) {
-        Answer::Done(n) => {
-            let k = n as usize;
-            let all = rooms::front(&values, k);
-            Drawn {
-                pen: draw_readings(fd, terminal, path, s, all, between(&present, 0, k)),
-                number: 0,
-                place: 0,
-            }
-        }
-        Answer::Refused(number, place) => Drawn {
-            pen: draw_break(fd, terminal, path, s, number, place),
-            number,
-            place,
-        },
-    }
-}
-
-// A column that was not found in a block is drawn as a break too; why was said.
-fn draw_lost(path: &[u8], c: Column, out: &[u8], over: bool, desk: Desk) -> bool {
+    part: &[u8],
+    n: usize,
+    all: Stretch,
+    out: &[u8],
+    over: bool,
+    desk: Desk,
+) -> bool {
     let fd = begin(out, over, desk);
     if fd < 0 {
         return false;
     }
+    if out.len() == 0 {
+        return end(
+            out,
+            terminal::picture(pen::on(fd), path, s, part, n, all),
+            desk,
+        );
+    }
+    end(out, svg::picture(pen::on(fd), path, s, part, n, all), desk)
+}
+
+// A column that does not read is drawn as a break.
+fn draw_break(
+    path: &[u8],
+    s: Subject,
+    number: u8,
+    place: usize,
+    out: &[u8],
+    over: bool,
+    desk: Desk,
+) -> bool {
+    let fd = begin(out, over, desk);
+    if fd < 0 {
+        return false;
+    }
+    if out.len() == 0 {
+        return end(
+            out,
+            terminal::fracture(pen::on(fd), path, s, number, place),
+            desk,
+        );
+    }
+    end(
+        out,
+        svg::fracture(pen::on(fd), path, s, number, place),
+        desk,
+    )
+}
+
+// A column that was not found in a block is drawn as a break too; why was said.
+fn draw_lost(path: &[u8], c: Column, out: &[u8], over: bool, desk: Desk) -> bool {
     let s = Subject {
         found: false,
         position: c.position,
         spec: 0,
         len: 0,
     };
-    end(
-        out,
-        draw_break(fd, out.len() == 0, path, s, c.number, c.place),
-        desk,
-    );
+    draw_break(path, s, c.number, c.place, out, over, desk);
     false
 }
 
-fn draw_found(path: &[u8], c: Column, part: &[u8], out: &[u8], over: bool, desk: Desk) -> bool {
-    let fd = begin(out, over, desk);
-    if fd < 0 {
+// A break, and why.
+fn draw_refused(
+    path: &[u8],
+    s: Subject,
+    number: u8,
+    place: usize,
+    out: &[u8],
+    over: bool,
+    desk: Desk,
+) -> bool {
+    draw_break(path, s, number, place, out, over, desk);
+    column::say_refused(path, s.position, number, place, desk);
+    false
+}
+
+// A column of n readings, which are walked first for what is known of all of them.
+fn draw_walked(
+    path: &[u8],
+    s: Subject,
+    part: &[u8],
+    n: u64,
+    out: &[u8],
+    over: bool,
+    desk: Desk,
+) -> bool {
+    if walk::LONGEST < n {
+        column::say_long(path, s.position, n, desk);
         return false;
     }
+    let p = places::all(part, kinds::of_spec(s.spec), n as usize);
+    if p.number != 0 {
+        return draw_refused(path, s, p.number, p.place, out, over, desk);
+    }
+    draw_readings(path, s, part, n as usize, p.stretch, out, over, desk)
+}
+
+fn draw_found(path: &[u8], c: Column, part: &[u8], out: &[u8], over: bool, desk: Desk) -> bool {
     let s = Subject {
         found: true,
         position: c.position,
         spec: c.spec,
         len: part.len(),
     };
-    let d = draw_part(fd, out.len() == 0, path, s, part);
-    let done = end(out, d.pen, desk);
-    if d.number == 0 {
-        return done;
+    match walk::count(part, kinds::of_spec(c.spec)) {
+        Answer::Done(n) => draw_walked(path, s, part, n, out, over, desk),
+        Answer::Refused(number, place) => draw_refused(path, s, number, place, out, over, desk),
     }
-    column::say_refused(path, c.position, d.number, d.place, desk);
-    false
 }
 
 fn draw_to(line: &[u8], out: &[u8], over: bool, desk: Desk) -> bool {

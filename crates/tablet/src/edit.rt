@@ -1,10 +1,8 @@
-// tablet edit FILE COLUMN START END READING.. --to OUT: a range of a column's readings replaced, in a new block. END may be `end`, for all
-// readings from START on.
+// tablet edit FILE COLUMN START END READING.. --to OUT: a range of a column's readings replaced, in a new block.
 ghost use mathlib.Core.Path.{_≡_};
 ghost use Prim.Native.Nat.{_+_, _-_, _^_, min};
 use crate::apply;
 use crate::apply::Edited;
-use crate::apply::Range;
 use crate::column;
 use crate::column::Column;
 use crate::files;
@@ -12,16 +10,17 @@ use crate::given;
 use crate::help;
 use crate::kinds;
 use crate::kinds::Kind;
-use crate::load;
 use crate::pen;
 use crate::pen::Desk;
 use crate::pen::Pen;
+use crate::range;
+use crate::range::Range;
 use crate::rooms;
 use crate::text::after;
 use crate::text::between;
+use crate::walk;
 use crate::words;
 use encoding::Answer;
-use splice::End;
 
 // What is edited: the range, its column's kind, how many readings that has, and whether a file that is there may be replaced.
 struct Wanted {
@@ -33,7 +32,7 @@ struct Wanted {
 
 // How many readings a column has; 0 where it does not read, which the edit itself refuses.
 fn count_of(part: &[u8], kind: Kind) -> usize {
-    match load::count(part, kind) {
+    match walk::count(part, kind) {
         Answer::Done(n) => n as usize,
         Answer::Refused(_, _) => 0,
     }
@@ -117,7 +116,7 @@ fn finish(
             to,
             block,
             r.position,
-            edited_len(w.old, r.start, end_of(r, w.old), new),
+            edited_len(w.old, r.start, range::end_of(r, w.old), new),
             desk,
         );
     }
@@ -171,8 +170,8 @@ fn edit_to(line: &[u8], option: usize, over: bool, desk: Desk) -> bool {
     if c.number != 0 {
         return false;
     }
-    let r = range_of(line, c.position, desk);
-    if !is_whole(r) {
+    let r = range::of_line(line, c.position, desk);
+    if !range::is_whole(r) {
         return false;
     }
     let text = between(line, words::start(line, 5), words::start(line, option));
@@ -180,36 +179,6 @@ fn edit_to(line: &[u8], option: usize, over: bool, desk: Desk) -> bool {
     let whole = between(&block, 0, c.size);
     let w = wanted_of(whole, c, r, over);
     edit_column(words::word(line, 1), whole, w, text, to, desk)
-}
-
-// START and END.
-fn range_of(line: &[u8], position: usize, desk: Desk) -> Range {
-    let start = column::place(words::word(line, 3), b"START", desk);
-    if check::same(words::word(line, 4), b"end") {
-        return Range {
-            position,
-            start,
-            end: End::OfList,
-        };
-    }
-    Range {
-        position,
-        start,
-        end: End::At(column::place(words::word(line, 4), b"END", desk)),
-    }
-}
-
-// Where a range ends in a list of so many readings.
-fn end_of(r: Range, old: usize) -> usize {
-    let end = r.end;
-    splice::end_in(end, old)
-}
-
-fn is_whole(r: Range) -> bool {
-    if r.start == column::MISSING {
-        return false;
-    }
-    end_of(r, 0) != column::MISSING
 }
 
 fn wrong(desk: Desk) -> bool {

@@ -86,7 +86,7 @@ pub fn read(path: &[u8], room: &mut [u8], desk: Desk) -> usize {
         Got::TooLarge => {
             pen::text(
                 about(path, desk),
-                b"larger than the 262,144 bytes that this tool takes\n",
+                b"larger than the 524,288 bytes that this tool takes\n",
             );
             FAILED
         }

@@ -9,7 +9,9 @@ fn say_looking(p: Pen) -> Pen {
         b"tablet: looks at blocks of columns, draws them, edits them and makes them
 
   tablet show FILE             the table: a row a column, with the number of its readings or where it breaks
-  tablet read FILE COLUMN      the readings of the column at a position, one a line, absent ones as -
+  tablet read FILE COLUMN [START END]
+                               the readings of the column at a position, one a line, absent ones as -; of all of it, or
+                               from START up to, not including, END
   tablet draw FILE COLUMN [--svg OUT [--over]]
                                the readings as a picture: in the terminal, or as a file for a browser
   tablet check FILE..          one line a file: sound, or the first refusal of each column
@@ -38,7 +40,8 @@ fn say_rules(p: Pen) -> Pen {
 A column's position counts from 0. Types are delta (whole numbers, kept as differences), integer and actor (from 0 on)
 and boolean. A reading is a number, - where it is absent, or true, false, 1, 0; 80x5 stands for five times 80.
 OUT is written completely or not at all. A file that is there already, the input among them, is left as it is, unless
---over is the last word: then it is replaced. Blocks have at most 262,144 bytes, and columns at most 32,768 readings.
+--over is the last word: then it is replaced. Blocks have at most 524,288 bytes; a column that is read or drawn
+has at most 10,000,000 readings, and one that is edited or made 32,768.
 What goes wrong is said on standard error, and ./tablet then ends with status 1.
 ",
     )

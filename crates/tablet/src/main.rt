@@ -11,12 +11,14 @@ mod edit;
 mod files;
 mod given;
 mod help;
+mod kept;
 mod kinds;
 mod lists;
-mod load;
 mod make;
 mod numbers;
 mod pen;
+mod places;
+mod range;
 mod read;
 mod refusals;
 mod rooms;
@@ -26,6 +28,7 @@ mod sound;
 mod svg;
 mod terminal;
 mod text;
+mod walk;
 mod words;
 
 use pen::Desk;
@@ -50,7 +53,7 @@ fn main() {
     if n == text::NO_ROOM {
         pen::text(
             pen::on(2),
-            b"tablet: the words of the command are longer than the 262,144 bytes that this tool takes; tablet script takes long lists\n",
+            b"tablet: the words of the command are longer than the 524,288 bytes that this tool takes; tablet script takes long lists\n",
         );
         return;
     }

@@ -1,6 +1,5 @@
 // tablet make OUT COLUMN..: a block from text. It begins as a table of empty columns, and each column's readings are edited in.
 use crate::apply;
-use crate::apply::Range;
 use crate::column;
 use crate::edit;
 use crate::files;
@@ -9,6 +8,7 @@ use crate::help;
 use crate::kinds;
 use crate::pen;
 use crate::pen::Desk;
+use crate::range::Range;
 use crate::refusals;
 use crate::rooms;
 use crate::text::after;

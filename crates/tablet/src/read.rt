@@ -1,17 +1,21 @@
-// tablet read FILE COLUMN: the readings, one a line.
+// tablet read FILE COLUMN [START END]: the readings, one a line, of all the column or of a range.
 use crate::column;
 use crate::help;
 use crate::kinds;
 use crate::kinds::Kind;
-use crate::load;
 use crate::numbers;
 use crate::pen;
 use crate::pen::Desk;
 use crate::pen::Pen;
+use crate::range;
+use crate::range::Range;
 use crate::rooms;
 use crate::text::between;
+use crate::walk;
+use crate::walk::Walked;
 use crate::words;
 use encoding::Answer;
+use splice::End;
 
 fn say_line(p: Pen, kind: Kind, value: u64, here: u8) -> Pen {
     if here == 0 {
@@ -20,54 +24,113 @@ fn say_line(p: Pen, kind: Kind, value: u64, here: u8) -> Pen {
     pen::text(numbers::say(p, kind, value), b"\n")
 }
 
-fn say_all(p: Pen, kind: Kind, values: &[u64], present: &[u8]) -> Pen {
-    if values.len() != present.len() {
-        return p;
-    }
-    let mut q = p;
-    let mut i = 0;
-    while i < values.len() {
-        q = say_line(q, kind, values[i], present[i]);
-        i += 1;
-    }
-    q
+// What was said, and the refusal that the walk met, where it met one.
+struct Said {
+    pen: Pen,
+    number: u8,
+    place: usize,
 }
 
-// The readings of a column that the table has.
-fn read_part(path: &[u8], position: usize, part: &[u8], kind: Kind, desk: Desk) -> bool {
-    let mut values = rooms::unsigned();
-    let mut present = rooms::flags();
-    match load::load(part, kind, &mut values, &mut present) {
-        Answer::Done(n) => {
-            let k = n as usize;
-            let all = rooms::front(&values, k);
-            pen::finish(
-                say_all(pen::on(desk.out), kind, all, between(&present, 0, k)),
-                desk,
-            )
+// The readings from a up to e.
+fn say_between(p: Pen, part: &[u8], kind: Kind, a: usize, e: usize) -> Said {
+    let mut q = p;
+    let mut w = walk::begin(part, kind);
+    let mut i = 0;
+    while i < e {
+        match walk::step(part, w) {
+            Walked::Reading(next, value, here) => {
+                if a <= i {
+                    q = say_line(q, kind, value, here);
+                }
+                w = next;
+            }
+            Walked::Over(number, place) => {
+                return Said {
+                    pen: q,
+                    number,
+                    place,
+                };
+            }
         }
+        i += 1;
+    }
+    Said {
+        pen: q,
+        number: 0,
+        place: 0,
+    }
+}
+
+// A range that the column has.
+fn read_between(path: &[u8], part: &[u8], kind: Kind, r: Range, e: usize, desk: Desk) -> bool {
+    let s = say_between(pen::on(desk.out), part, kind, r.start, e);
+    let said = pen::finish(s.pen, desk);
+    if s.number == 0 {
+        return said;
+    }
+    column::say_refused(path, r.position, s.number, s.place, desk);
+    false
+}
+
+// A range of a column of n readings: first whether there is one, and whether it is walked.
+fn read_range(path: &[u8], part: &[u8], kind: Kind, r: Range, n: u64, desk: Desk) -> bool {
+    let e = range::end_of(r, n as usize);
+    if !range::is_in(r.start, e, n as usize) {
+        column::say_refused(path, r.position, 18, 0, desk);
+        return false;
+    }
+    if walk::LONGEST < e as u64 {
+        column::say_long(path, r.position, n, desk);
+        return false;
+    }
+    read_between(path, part, kind, r, e, desk)
+}
+
+// A column that the table has: nothing is said of its readings before it is known to read whole.
+fn read_part(path: &[u8], part: &[u8], kind: Kind, r: Range, desk: Desk) -> bool {
+    match walk::count(part, kind) {
+        Answer::Done(n) => read_range(path, part, kind, r, n, desk),
         Answer::Refused(number, place) => {
-            column::say_refused(path, position, number, place, desk);
+            column::say_refused(path, r.position, number, place, desk);
             false
         }
     }
 }
 
-pub fn run(line: &[u8], desk: Desk) -> bool {
-    if words::count(line) != 3 {
-        return help::wrong(b"read FILE COLUMN", desk);
+// All of it, where no range is named.
+fn range_of(line: &[u8], all: usize, position: usize, desk: Desk) -> Range {
+    if all == 5 {
+        return range::of_line(line, position, desk);
     }
+    Range {
+        position,
+        start: 0,
+        end: End::OfList,
+    }
+}
+
+fn read(line: &[u8], all: usize, desk: Desk) -> bool {
     let mut block = rooms::block();
     let c = column::open(line, &mut block, desk);
     if c.number != 0 {
         return false;
     }
+    let r = range_of(line, all, c.position, desk);
+    if !range::is_whole(r) {
+        return false;
+    }
     let part = between(&block, c.start, c.end);
-    read_part(
-        words::word(line, 1),
-        c.position,
-        part,
-        kinds::of_spec(c.spec),
-        desk,
-    )
+    let kind = kinds::of_spec(c.spec);
+    read_part(words::word(line, 1), part, kind, r, desk)
+}
+
+pub fn run(line: &[u8], desk: Desk) -> bool {
+    let all = words::count(line);
+    if all == 3 {
+        return read(line, all, desk);
+    }
+    if all == 5 {
+        return read(line, all, desk);
+    }
+    help::wrong(b"read FILE COLUMN [START END]", desk)
 }

@@ -14,8 +14,8 @@ the list passes 4,294,967,295 readings\0\
 the sum of the differences leaves 64 bits\0\
 the step from the reading before is too large to be written\0\
 the lists do not fit together\0\
-the column has more than the 32,768 readings that this tool takes\0\
-the new block is larger than the 262,144 bytes that this tool takes\0\
+the column has more than the 32,768 readings that this tool edits\0\
+the new block is larger than the 524,288 bytes that this tool takes\0\
 there are more than 64 columns\0\
 the columns are not in order: by id, then by type\0\
 a column is compressed\0\

@@ -1,11 +1,11 @@
-// Room for blocks and scripts, of at most 262,144 bytes, and for readings, of which a column has at most 32,768.
+// Room for blocks and scripts, of at most 524,288 bytes, and for the readings of an edit, of which a column has at most 32,768.
 ghost use mathlib.Core.Path.{_≡_};
 ghost use lib.ListN.{length};
 
-pub fn block() -> [u8; 262144]
-    ensures { λ r. ⌜ 262144 ≡ length r ⌝ }
+pub fn block() -> [u8; 524288]
+    ensures { λ r. ⌜ 524288 ≡ length r ⌝ }
 {
-    [0; 262144]
+    [0; 524288]
 }
 
 pub fn unsigned() -> [u64; 32768]

@@ -4,13 +4,13 @@ use crate::files;
 use crate::help;
 use crate::kinds;
 use crate::kinds::Kind;
-use crate::load;
 use crate::pen;
 use crate::pen::Desk;
 use crate::pen::Pen;
 use crate::refusals;
 use crate::rooms;
 use crate::text::between;
+use crate::walk;
 use crate::words;
 use encoding::Answer;
 
@@ -45,7 +45,7 @@ fn say_readings(p: Pen, part: &[u8], kind: Kind) -> Shown {
             bad: 0,
         };
     }
-    match load::count(part, kind) {
+    match walk::count(part, kind) {
         Answer::Done(n) => Shown {
             pen: pen::form(p, b"%\n", n, 0, 0, 0),
             bad: 0,

@@ -3,7 +3,6 @@ use crate::column;
 use crate::files;
 use crate::help;
 use crate::kinds;
-use crate::load;
 use crate::pen;
 use crate::pen::Desk;
 use crate::pen::Pen;
@@ -11,6 +10,7 @@ use crate::refusals;
 use crate::rooms;
 use crate::text::after;
 use crate::text::between;
+use crate::walk;
 use crate::words;
 use encoding::Answer;
 
@@ -45,7 +45,7 @@ fn judge_column(l: Line, block: &[u8], position: usize) -> Line {
         return l;
     }
     let part = between(block, c.start, c.end);
-    match load::count(part, kind) {
+    match walk::count(part, kind) {
         Answer::Done(_) => l,
         Answer::Refused(number, place) => with_refusal(l, position, number, place),
     }

@@ -7,13 +7,11 @@ use crate::kinds::Kind;
 use crate::numbers;
 use crate::pen;
 use crate::pen::Pen;
+use crate::places;
 use crate::refusals;
 use crate::text::byte_at;
 use picture::Scale;
 use picture::Stretch;
-
-// How many places across the picture has at most.
-const WIDTH: usize = 680;
 
 // The height of the picture in units: how many depths a unit has, the height of the trace itself, and all of it.
 struct Height {
@@ -150,11 +148,11 @@ fn place_of(p: Pen, kind: Kind, base: u64, h: Height, x: u64, s: Stretch) -> Pen
     place(p, base, h, x, s)
 }
 
-fn places(p: Pen, kind: Kind, c: Scale, h: Height, values: &[u64], present: &[u8]) -> Pen {
+fn all_places(p: Pen, kind: Kind, c: Scale, h: Height, stretches: [Stretch; 680]) -> Pen {
     let mut q = p;
     let mut x = 0;
     while x < c.places {
-        let s = picture::stretch_at(values, present, c.per, x);
+        let s = places::at(stretches, x);
         q = place_of(q, kind, c.base, h, x as u64, s);
         x += 1;
     }
@@ -162,7 +160,7 @@ fn places(p: Pen, kind: Kind, c: Scale, h: Height, values: &[u64], present: &[u8
 }
 
 // The drawing of the readings, stretched over the page.
-fn drawing(p: Pen, kind: Kind, c: Scale, h: Height, values: &[u64], present: &[u8]) -> Pen {
+fn drawing(p: Pen, kind: Kind, c: Scale, h: Height, stretches: [Stretch; 680]) -> Pen {
     let q = pen::form(
         p,
         b"<svg x=\"90\" y=\"70\" width=\"680\" height=\"280\" preserveAspectRatio=\"none\" shape-rendering=\"crispEdges\" viewBox=\"0 0 % %\">\n",
@@ -171,7 +169,7 @@ fn drawing(p: Pen, kind: Kind, c: Scale, h: Height, values: &[u64], present: &[u
         0,
         0,
     );
-    pen::text(places(q, kind, c, h, values, present), b"</svg>\n")
+    pen::text(all_places(q, kind, c, h, stretches), b"</svg>\n")
 }
 
 // Where on the page the middle of a trace at a depth lies.
@@ -224,7 +222,7 @@ fn gap(p: Pen, x: u64, s: Stretch) -> Pen {
     part(p, b"part", x, 0, 1)
 }
 
-fn gaps(p: Pen, c: Scale, values: &[u64], present: &[u8]) -> Pen {
+fn gaps(p: Pen, c: Scale, stretches: [Stretch; 680]) -> Pen {
     let mut q = pen::form(
         p,
         b"<svg x=\"90\" y=\"352\" width=\"680\" height=\"6\" preserveAspectRatio=\"none\" shape-rendering=\"crispEdges\" viewBox=\"0 0 % 1\">\n",
@@ -235,7 +233,7 @@ fn gaps(p: Pen, c: Scale, values: &[u64], present: &[u8]) -> Pen {
     );
     let mut x = 0;
     while x < c.places {
-        q = gap(q, x as u64, picture::stretch_at(values, present, c.per, x));
+        q = gap(q, x as u64, places::at(stretches, x));
         x += 1;
     }
     pen::text(q, b"</svg>\n")
@@ -277,18 +275,18 @@ fn lowest(kind: Kind, high: u64) -> u64 {
     if kinds::is_yes_no(kind) { 1 } else { high }
 }
 
-fn picture_of(p: Pen, kind: Kind, all: Stretch, values: &[u64], present: &[u8]) -> Pen {
-    let c = draw::scale_for(all, kind, values.len(), WIDTH);
+fn picture_of(p: Pen, part: &[u8], kind: Kind, n: usize, all: Stretch) -> Pen {
+    let c = draw::scale_for(all, kind, n, places::MOST);
+    let stretches = places::of_scale(part, kind, c);
     let h = height_for(c.base, lowest(kind, all.high), kind);
-    let q = drawing(levels(p, kind, c, h), kind, c, h, values, present);
-    let r = gaps(q, c, values, present);
-    legend(axes(r, kind, c.per, values.len()), all.gone)
+    let q = drawing(levels(p, kind, c, h), kind, c, h, stretches);
+    let r = gaps(q, c, stretches);
+    legend(axes(r, kind, c.per, n), all.gone)
 }
 
-// A column that reads.
-pub fn picture(p: Pen, path: &[u8], s: Subject, values: &[u64], present: &[u8]) -> Pen {
+// A column of n readings that reads, of which `all` is known.
+pub fn picture(p: Pen, path: &[u8], s: Subject, part: &[u8], n: usize, all: Stretch) -> Pen {
     let kind = kinds::of_spec(s.spec);
-    let all = picture::stretch_of(values, present, 0, values.len());
     let q = facts(title(head(p), path, s), kind, all);
     if all.here == 0 {
         return pen::text(
@@ -296,7 +294,7 @@ pub fn picture(p: Pen, path: &[u8], s: Subject, values: &[u64], present: &[u8]) 
             b"<text class=\"ink\" x=\"90\" y=\"200\">there is no depth to draw</text>\n</svg>\n",
         );
     }
-    pen::text(picture_of(q, kind, all, values, present), b"</svg>\n")
+    pen::text(picture_of(q, part, kind, n, all), b"</svg>\n")
 }
 
 // A column that does not read: no clay, and no reading.

@@ -6,6 +6,7 @@ use crate::kinds::Kind;
 use crate::numbers;
 use crate::pen;
 use crate::pen::Pen;
+use crate::places;
 use crate::refusals;
 use crate::text::after;
 use crate::text::between;
@@ -52,12 +53,12 @@ fn clay(kind: Kind, shade: usize) -> usize {
     shade
 }
 
-fn row(p: Pen, kind: Kind, c: Scale, row: usize, values: &[u64], present: &[u8]) -> Pen {
+fn row(p: Pen, kind: Kind, c: Scale, row: usize, stretches: [Stretch; 680]) -> Pen {
     let n = cell(c.places);
     let mut q = p;
     let mut x = 0;
     while x < c.places {
-        let s = picture::stretch_at(values, present, c.per, x);
+        let s = places::at(stretches, x);
         q = sign(q, clay(kind, picture::shade_at(c, row, s)), n);
         x += 1;
     }
@@ -70,11 +71,11 @@ fn label(p: Pen, kind: Kind, c: Scale, row: usize, width: usize) -> Pen {
     pen::text(numbers::say(q, kind, depth), b" |")
 }
 
-fn rows(p: Pen, kind: Kind, c: Scale, width: usize, values: &[u64], present: &[u8]) -> Pen {
+fn rows(p: Pen, kind: Kind, c: Scale, width: usize, stretches: [Stretch; 680]) -> Pen {
     let mut q = p;
     let mut r = 0;
     while r < c.rows {
-        q = row(label(q, kind, c, r, width), kind, c, r, values, present);
+        q = row(label(q, kind, c, r, width), kind, c, r, stretches);
         r += 1;
     }
     q
@@ -85,12 +86,12 @@ fn tick(count: usize) -> usize {
 }
 
 // The ruler below has a gap where every reading of a place is absent.
-fn ruler(p: Pen, c: Scale, values: &[u64], present: &[u8]) -> Pen {
+fn ruler(p: Pen, c: Scale, stretches: [Stretch; 680]) -> Pen {
     let n = cell(c.places);
     let mut q = pen::text(p, b" +");
     let mut x = 0;
     while x < c.places {
-        let s = picture::stretch_at(values, present, c.per, x);
+        let s = places::at(stretches, x);
         q = sign(q, tick(s.here), n);
         x += 1;
     }
@@ -153,25 +154,25 @@ fn label_width(kind: Kind, base: u64, high: u64) -> usize {
     if first < last { last } else { first }
 }
 
-fn picture_of(p: Pen, kind: Kind, all: Stretch, values: &[u64], present: &[u8]) -> Pen {
-    let c = draw::scale_for(all, kind, values.len(), WIDTH);
+fn picture_of(p: Pen, part: &[u8], kind: Kind, n: usize, all: Stretch) -> Pen {
+    let c = draw::scale_for(all, kind, n, WIDTH);
+    let stretches = places::of_scale(part, kind, c);
     let width = label_width(kind, c.base, all.high);
-    let q = rows(p, kind, c, width, values, present);
-    let r = ruler(pen::blanks(q, width), c, values, present);
-    let t = indices(pen::blanks(r, width), c, values.len());
+    let q = rows(p, kind, c, width, stretches);
+    let r = ruler(pen::blanks(q, width), c, stretches);
+    let t = indices(pen::blanks(r, width), c, n);
     legend(t, kind, c, all.gone)
 }
 
-// A column that reads.
-pub fn picture(p: Pen, path: &[u8], s: Subject, values: &[u64], present: &[u8]) -> Pen {
+// A column of n readings that reads, of which `all` is known.
+pub fn picture(p: Pen, path: &[u8], s: Subject, part: &[u8], n: usize, all: Stretch) -> Pen {
     let kind = kinds::of_spec(s.spec);
-    let all = picture::stretch_of(values, present, 0, values.len());
     let q = pen::text(draw::say_subject(p, path, s), b"\n");
     let r = draw::say_facts(q, kind, all);
     if all.here == 0 {
         return pen::text(r, b"\nthere is no depth to draw\n");
     }
-    picture_of(pen::text(r, b"\n\n"), kind, all, values, present)
+    picture_of(pen::text(r, b"\n\n"), part, kind, n, all)
 }
 
 // A column that does not read: no clay, and no reading.

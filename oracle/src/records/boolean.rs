@@ -3,28 +3,23 @@
 //! 01's: the crate has no slots and no lent outputs.
 
 use super::columns::{
-    all_columns, all_lists, damaged, read, written, Encoding, Kind, Slices, LIMIT, MOST,
+    all_columns, all_lists, damaged, read, written, Encoding, Kind, Slices, Walked, LIMIT, MOST,
+    READ,
 };
 use super::{comment, Options};
+use crate::boolean;
 use crate::numbers::{leb128_u64, write_u64};
 use crate::random::Random;
-use crate::{boolean, Refusal, TOO_MANY};
 
 pub const KIND: Kind = Kind {
     calls: "boolean",
     slices: 1,
     stretches: 9_000,
-    decode,
+    walk,
 };
 
-fn decode(column: &[u8]) -> Option<Result<Slices, Refusal>> {
-    if announced(column) > LIMIT {
-        return None;
-    }
-    match boolean::decode(column, MOST) {
-        Err(TOO_MANY) => None,
-        answer => Some(answer.map(|list| slices(&list))),
-    }
+fn walk(column: &[u8]) -> Option<Walked> {
+    (announced(column) <= LIMIT).then(|| boolean::walk(column, MOST).sliced(slices))
 }
 
 /// How many readings the counts up to the first fault announce.
@@ -113,24 +108,33 @@ fn spoilt(out: &mut String, list: &[bool], random: &mut Random) {
 }
 
 /// The bytes at which the rules turn.
-const ALPHABET: [u8; 9] = [0x00, 0x01, 0x02, 0x03, 0x3f, 0x7f, 0x80, 0x81, 0xff];
+pub const ALPHABET: [u8; 9] = [0x00, 0x01, 0x02, 0x03, 0x3f, 0x7f, 0x80, 0x81, 0xff];
 
 /// All columns of few bytes, and by chance.
 pub fn bytes(out: &mut String, options: &Options, random: &mut Random) {
     comment(out, "the readings and the refusals 1, 2 and 3 are those of the crate's decoder, over strict numbers; 9 is document 01's");
     let most = if options.lean { 3 } else { 5 };
-    all_columns(out, &KIND, &ALPHABET, most);
+    all_columns(out, &KIND, &ALPHABET, most, &READ);
     comment(out, "the crate's columns of long runs");
-    for list in long() {
-        read(out, &KIND, &boolean::encode(&list));
+    for column in long_columns() {
+        read(out, &KIND, &column);
     }
     comment(out, "by chance: the crate's columns, and wasteful ones; each cut at every byte, and with bytes changed");
     for _ in 0..options.count {
-        let column = match random.below(2) {
-            0 => boolean::encode(&chance(random)),
-            _ => wasteful(random),
-        };
+        let column = chance_column(random);
         damaged(out, &KIND, &column, random);
+    }
+}
+
+pub fn long_columns() -> Vec<Vec<u8>> {
+    long().iter().map(|list| boolean::encode(list)).collect()
+}
+
+/// A column of the crate's, or a wasteful one.
+pub fn chance_column(random: &mut Random) -> Vec<u8> {
+    match random.below(2) {
+        0 => boolean::encode(&chance(random)),
+        _ => wasteful(random),
     }
 }
 

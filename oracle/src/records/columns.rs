@@ -3,7 +3,7 @@
 use super::{comment, Record};
 use crate::numbers::{leb128_i64, leb128_u64, Reading};
 use crate::random::Random;
-use crate::Refusal;
+use crate::{Refusal, Walk, TOO_MANY};
 
 /// A list by its slices: values, by their bits, and presence bytes; or the bytes of a boolean list alone.
 pub type Slices = Vec<Vec<u64>>;
@@ -20,8 +20,40 @@ pub struct Kind {
     pub slices: usize,
     /// of how many different stretches a list is at most: a line has to hold it
     pub stretches: usize,
-    /// the list of a column, or its refusal; None where the column is outside the records
-    pub decode: fn(&[u8]) -> Option<Result<Slices, Refusal>>,
+    /// what the crate's decoder gives, at most `MOST` readings; None where the column is outside the records
+    pub walk: fn(&[u8]) -> Option<Walked>,
+}
+
+/// A walk, its readings by their slices.
+pub struct Walked {
+    pub readings: Slices,
+    pub ending: Result<(), Refusal>,
+}
+
+impl<T> Walk<T> {
+    pub(super) fn sliced(self, slices: fn(&[T]) -> Slices) -> Walked {
+        Walked {
+            readings: slices(&self.readings),
+            ending: self.ending,
+        }
+    }
+}
+
+impl Kind {
+    /// The list of a column, or its refusal; None where the column is outside the records, or has more than `MOST` readings.
+    pub fn decode(&self, column: &[u8]) -> Option<Result<Slices, Refusal>> {
+        let walked = (self.walk)(column)?;
+        match walked.ending {
+            Err(TOO_MANY) => None,
+            ending => Some(ending.map(|()| walked.readings)),
+        }
+    }
+
+    /// Does a line hold the list?
+    pub fn holds(&self, list: &Slices) -> bool {
+        let stretches = |slice: &Vec<u64>| slice.chunk_by(|a, b| a == b).count();
+        list.iter().map(stretches).all(|n| n <= self.stretches)
+    }
 }
 
 /// What a list is written as, or document 01's refusal and its place.
@@ -93,9 +125,8 @@ pub fn encoded(out: &mut String, calls: &str, list: &Slices, bytes: &[u8], size:
 
 /// What the crate reads, where the records have the column.
 fn answer(kind: &Kind, column: &[u8]) -> Option<Result<Slices, Refusal>> {
-    let stretches = |slice: &Vec<u64>| slice.chunk_by(|a, b| a == b).count();
-    (kind.decode)(column).filter(|answer| match answer {
-        Ok(list) => list.iter().map(stretches).all(|n| n <= kind.stretches),
+    kind.decode(column).filter(|answer| match answer {
+        Ok(list) => kind.holds(list),
         Err(_) => true,
     })
 }
@@ -191,20 +222,45 @@ pub fn damaged(out: &mut String, kind: &Kind, column: &[u8], random: &mut Random
         read(out, kind, &column[..end]);
     }
     for _ in 0..column.len().min(4) {
-        let mut other = column.to_vec();
-        let at = random.below(column.len() as u64) as usize;
-        other[at] = match random.below(3) {
-            0 => random.byte(),
-            1 => other[at] ^ 0x80,
-            _ => random.pick(&[0x00, 0x01, 0x40, 0x7f, 0x80, 0xff]),
-        };
+        let other = changed(column, random);
         read(out, kind, &other);
         decoded_by_chance(out, kind, &other, random);
     }
 }
 
+/// A column, which is not empty, with one of its bytes changed.
+pub fn changed(column: &[u8], random: &mut Random) -> Vec<u8> {
+    let mut other = column.to_vec();
+    let at = random.below(column.len() as u64) as usize;
+    other[at] = match random.below(3) {
+        0 => random.byte(),
+        1 => other[at] ^ 0x80,
+        _ => random.pick(&[0x00, 0x01, 0x40, 0x7f, 0x80, 0xff]),
+    };
+    other
+}
+
+/// How a column is recorded.
+pub struct Recorded {
+    /// writes its records, and says whether it is among them at all
+    pub by: fn(&mut String, &Kind, &[u8]) -> bool,
+    /// why one is left out
+    pub without: &'static str,
+}
+
+pub const READ: Recorded = Recorded {
+    by: read,
+    without: "their counts make more than 17000 readings, which the crate lists one by one, or pass the limit; or no line holds the list",
+};
+
 /// All columns of up to `most` bytes over an alphabet.
-pub fn all_columns(out: &mut String, kind: &Kind, alphabet: &[u8], most: usize) {
+pub fn all_columns(
+    out: &mut String,
+    kind: &Kind,
+    alphabet: &[u8],
+    most: usize,
+    recorded: &Recorded,
+) {
     let letters: Vec<String> = alphabet.iter().map(|byte| format!("{byte:02x}")).collect();
     let letters = letters.join(" ");
     comment(
@@ -214,11 +270,12 @@ pub fn all_columns(out: &mut String, kind: &Kind, alphabet: &[u8], most: usize) 
     let mut left_out = 0;
     all_lists(alphabet.len(), most, |kinds| {
         let column: Vec<u8> = kinds.iter().map(|&kind| alphabet[kind]).collect();
-        if !read(out, kind, &column) {
+        if !(recorded.by)(out, kind, &column) {
             left_out += 1;
         }
     });
-    comment(out, &format!("{left_out} of these are left out: their counts make more than {MOST} readings, which the crate lists one by one, or pass the limit; or no line holds the list"));
+    let without = recorded.without;
+    comment(out, &format!("{left_out} of these are left out: {without}"));
 }
 
 /// Do the counts up to the first fault stay within document 01's limit? The crate has none: it takes the values of a run

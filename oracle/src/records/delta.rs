@@ -1,19 +1,19 @@
 //! Delta columns of optional i64: the crate's RLE over sums and differences of ours, from document 01. Refusals 6, 7, 8, 9
 //! and 10 are document 01's.
 
-use super::columns::{is_within_limit, Encoding, Kind, Slices, MOST};
+use super::columns::{is_within_limit, Encoding, Kind, Slices, Walked, MOST};
 use super::optional::{self, Optional};
 use super::{comment, Options};
+use crate::delta;
 use crate::numbers::{leb128_i64, write_i64};
 use crate::random::Random;
-use crate::{delta, Refusal, TOO_MANY};
 
 pub const COLUMN: Optional = Optional {
     kind: Kind {
         calls: "delta",
         slices: 2,
         stretches: 300,
-        decode,
+        walk,
     },
     // 1 and 2 behind one another have the same difference; -300
     few: &[1, 2, (-300i64) as u64],
@@ -42,23 +42,14 @@ fn encode(list: &[Option<u64>]) -> Encoding {
     Ok(delta::encode(&list))
 }
 
-/// Where a sum leaves i64 before the crate's RLE finds a fault: document 01's 6.
-fn decode(column: &[u8]) -> Option<Result<Slices, Refusal>> {
-    if !is_within_limit(column, leb128_i64) {
-        return None;
-    }
-    if !delta::is_within(column, MOST) {
-        return Some(Err(6));
-    }
-    match delta::decode(column, MOST) {
-        Err(TOO_MANY) => None,
-        answer => Some(answer.map(|list| {
-            let bits = |reading: &Option<i64>| reading.unwrap_or(0) as u64;
-            let values = list.iter().map(bits).collect();
-            let present = list.iter().map(|reading| reading.is_some().into());
-            vec![values, present.collect()]
-        })),
-    }
+fn walk(column: &[u8]) -> Option<Walked> {
+    is_within_limit(column, leb128_i64).then(|| delta::walk(column, MOST).sliced(slices))
+}
+
+fn slices(list: &[Option<i64>]) -> Slices {
+    let values = list.iter().map(|reading| reading.unwrap_or(0) as u64);
+    let present = list.iter().map(|reading| reading.is_some().into());
+    vec![values.collect(), present.collect()]
 }
 
 /// The list whose differences are 0, 1 and -1 for the numbers 5, 1 and 2 of the runs.

@@ -27,7 +27,7 @@ const INTEGER: Column = Column {
         call: "splice_integer",
         types: &[1, 2],
         slices: 2,
-        decode: integers::COLUMN.kind.decode,
+        decode: |column| integers::COLUMN.kind.decode(column),
         encode: integers::COLUMN.encode,
         splice: rle::splice,
     },
@@ -43,7 +43,7 @@ const DELTA: Column = Column {
         call: "splice_delta",
         types: &[3],
         slices: 2,
-        decode: deltas::COLUMN.kind.decode,
+        decode: |column| deltas::COLUMN.kind.decode(column),
         encode: deltas::COLUMN.encode,
         splice: |column, start, end, new| {
             let signed = |reading: &Reading| reading.map(|bits| bits as i64);
@@ -63,7 +63,7 @@ const BOOLEAN: Column = Column {
         call: "splice_boolean",
         types: &[4],
         slices: 1,
-        decode: booleans::KIND.decode,
+        decode: |column| booleans::KIND.decode(column),
         encode: |list| Ok(boolean::encode(&bools(list))),
         splice: |column, start, end, new| boolean::splice(column, start, end, &bools(new)),
     },

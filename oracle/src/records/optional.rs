@@ -1,7 +1,7 @@
 //! Lists of optional readings, RLE and delta: what the families of the two share.
 
 use super::columns::{
-    all_columns, all_lists, damaged, encoded, read, written, Encoding, Kind, Slices,
+    all_columns, all_lists, damaged, encoded, read, written, Encoding, Kind, Slices, READ,
 };
 use super::{comment, Options};
 use crate::numbers::{write_i64, write_u64};
@@ -122,31 +122,40 @@ fn long() -> Vec<Vec<Option<u64>>> {
 }
 
 /// The bytes at which the rules turn.
-const ALPHABET: [u8; 11] = [
+pub const ALPHABET: [u8; 11] = [
     0x00, 0x01, 0x02, 0x03, 0x3f, 0x7d, 0x7e, 0x7f, 0x80, 0x81, 0xff,
 ];
 
 pub fn bytes(out: &mut String, options: &Options, random: &mut Random, column: &Optional) {
     let kind = &column.kind;
     let most = if options.lean { 3 } else { 5 };
-    all_columns(out, kind, &ALPHABET, most);
+    all_columns(out, kind, &ALPHABET, most, &READ);
     comment(out, "the crate's columns of long runs");
-    for list in long() {
-        let bytes = (column.encode)(&(column.of_runs)(&list)).unwrap();
+    for bytes in long_columns(column) {
         if bytes.len() < 1000 || !options.lean {
             read(out, kind, &bytes);
         }
     }
     comment(out, "by chance: the crate's columns, and wasteful ones; each cut at every byte, and with bytes changed");
     for _ in 0..options.count {
-        let column = match random.below(2) {
-            0 => {
-                let length = random.below(12);
-                (column.encode)(&(column.chance)(length, random)).unwrap_or_default()
-            }
-            _ => wasteful(column, random),
-        };
+        let column = chance_column(column, random);
         damaged(out, kind, &column, random);
+    }
+}
+
+pub fn long_columns(column: &Optional) -> Vec<Vec<u8>> {
+    let bytes = |list: Vec<_>| (column.encode)(&(column.of_runs)(&list)).unwrap();
+    long().into_iter().map(bytes).collect()
+}
+
+/// A column of the crate's, or a wasteful one.
+pub fn chance_column(column: &Optional, random: &mut Random) -> Vec<u8> {
+    match random.below(2) {
+        0 => {
+            let length = random.below(12);
+            (column.encode)(&(column.chance)(length, random)).unwrap_or_default()
+        }
+        _ => wasteful(column, random),
     }
 }
 

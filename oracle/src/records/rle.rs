@@ -1,19 +1,19 @@
 //! RLE columns of optional u64: the crate's `RleEncoder` and `RleDecoder`, over strict numbers. Refusals 8, 9 and 10 are
 //! document 01's: the crate has no slots and no lent outputs.
 
-use super::columns::{is_within_limit, Kind, Slices, MOST};
+use super::columns::{is_within_limit, Kind, Slices, Walked, MOST};
 use super::optional::{self, Optional};
 use super::{comment, Options};
 use crate::numbers::{leb128_u64, write_u64};
 use crate::random::Random;
-use crate::{rle, Refusal, TOO_MANY};
+use crate::rle;
 
 pub const COLUMN: Optional = Optional {
     kind: Kind {
         calls: "rle",
         slices: 2,
         stretches: 9_000,
-        decode,
+        walk,
     },
     few: &[1, 2, 300],
     encode: |list| Ok(rle::encode(list)),
@@ -22,21 +22,14 @@ pub const COLUMN: Optional = Optional {
     value: |random| write_u64(value(random)),
 };
 
-fn decode(column: &[u8]) -> Option<Result<Slices, Refusal>> {
-    if !is_within_limit(column, leb128_u64) {
-        return None;
-    }
-    match rle::decode(column, MOST) {
-        Err(TOO_MANY) => None,
-        answer => Some(answer.map(|list| {
-            let values = list.iter().map(|reading| reading.unwrap_or(0)).collect();
-            let present = list
-                .iter()
-                .map(|reading| reading.is_some().into())
-                .collect();
-            vec![values, present]
-        })),
-    }
+fn walk(column: &[u8]) -> Option<Walked> {
+    is_within_limit(column, leb128_u64).then(|| rle::walk(column, MOST).sliced(slices))
+}
+
+fn slices(list: &[Option<u64>]) -> Slices {
+    let values = list.iter().map(|reading| reading.unwrap_or(0));
+    let present = list.iter().map(|reading| reading.is_some().into());
+    vec![values.collect(), present.collect()]
 }
 
 fn value(random: &mut Random) -> u64 {

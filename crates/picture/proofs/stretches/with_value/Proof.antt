@@ -5,7 +5,7 @@ use Rattle.picture.proofs.stretches.with_value.Statement.{statement}
 use Rattle.picture.proofs.stretches.with_value.Tie as tie
 
 returns : tie.Need-returns
-returns c = λ xs e. value-first (c .before .before .args .s) (c .before .before .args .value) xs e (search needs)
+returns c = value-first (c .before .before .args .s) (c .before .before .args .value) (search needs)
 
 least-requires : tie.Need-least-requires
 least-requires c κs = search needs
@@ -13,14 +13,13 @@ least-requires c κs = search needs
 greatest-requires : tie.Need-greatest-requires
 greatest-requires c κs = search needs
 
-add-t6 : tie.Need-add-t6
-add-t6 c = search needs
+one-more-requires : tie.Need-one-more-requires
+one-more-requires c κs = search needs
 
 returns-2 : tie.Need-returns-2
 returns-2 c =
     let a = c .before .before .before .before .before .args in
-    λ xs e. value-more (a .s) (a .value) xs e (c .before .before .least .result) (c .before .greatest .result) (search needs) (search needs)
-    (search needs)
+    value-more (a .s) (a .value) (search needs) _ _ _ (c .before .before .least .ensures) (c .before .greatest .ensures) (c .one-more .ensures)
 
 pub with-value-spec : {M : Type 1} → statement M
-with-value-spec = tie.close (tie.spec returns least-requires greatest-requires add-t6 returns-2)
+with-value-spec = tie.close (tie.spec returns least-requires greatest-requires one-more-requires returns-2)

@@ -5,10 +5,10 @@ use Rattle.tablet.proofs.svg.gaps.Statement.{statement}
 use Rattle.tablet.proofs.svg.gaps.Tie as tie
 
 abbrev Inv-loop : tie.InvT-loop
-Inv-loop c values present q₀ x₀ t8 q x = Unit {0}
+Inv-loop c stretches q₀ x₀ t8 q x = Unit {0}
 
 abbrev μ-loop : tie.MeasureT-loop
-μ-loop c values present q₀ x₀ t8 q x = (c .places) - x
+μ-loop c stretches q₀ x₀ t8 q x = (c .places) - x
 
 slice-aggregate-form : tie.Need-slice-aggregate-form Inv-loop μ-loop
 slice-aggregate-form c = search needs
@@ -19,8 +19,8 @@ form-requires c κs = search needs
 loop-holds : tie.Need-loop-holds Inv-loop μ-loop
 loop-holds c = search needs
 
-stretch-at-requires : tie.Need-stretch-at-requires Inv-loop μ-loop
-stretch-at-requires c κs = search needs
+at-requires : tie.Need-at-requires Inv-loop μ-loop
+at-requires c κs = search needs
 
 gap-requires : tie.Need-gap-requires Inv-loop μ-loop
 gap-requires c κs = search needs
@@ -52,7 +52,7 @@ gaps-spec =
     slice-aggregate-form
     form-requires
     loop-holds
-    stretch-at-requires
+    at-requires
     gap-requires
     add-x
     loop-less

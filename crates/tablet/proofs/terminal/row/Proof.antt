@@ -5,10 +5,10 @@ use Rattle.tablet.proofs.terminal.row.Statement.{statement}
 use Rattle.tablet.proofs.terminal.row.Tie as tie
 
 abbrev Inv-loop : tie.InvT-loop
-Inv-loop kind c row values present n q₀ x₀ t11 q x = Unit {0}
+Inv-loop kind c row stretches n q₀ x₀ t11 q x = Unit {0}
 
 abbrev μ-loop : tie.MeasureT-loop
-μ-loop kind c row values present n q₀ x₀ t11 q x = (c .places) - x
+μ-loop kind c row stretches n q₀ x₀ t11 q x = (c .places) - x
 
 cell-requires : tie.Need-cell-requires Inv-loop μ-loop
 cell-requires c κs = search needs
@@ -16,8 +16,8 @@ cell-requires c κs = search needs
 loop-holds : tie.Need-loop-holds Inv-loop μ-loop
 loop-holds c = search needs
 
-stretch-at-requires : tie.Need-stretch-at-requires Inv-loop μ-loop
-stretch-at-requires c κs = search needs
+at-requires : tie.Need-at-requires Inv-loop μ-loop
+at-requires c κs = search needs
 
 shade-at-requires : tie.Need-shade-at-requires Inv-loop μ-loop
 shade-at-requires c κs = search needs
@@ -54,7 +54,7 @@ row-spec =
     μ-loop
     cell-requires
     loop-holds
-    stretch-at-requires
+    at-requires
     shade-at-requires
     clay-requires
     sign-requires

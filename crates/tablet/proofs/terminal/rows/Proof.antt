@@ -5,10 +5,10 @@ use Rattle.tablet.proofs.terminal.rows.Statement.{statement}
 use Rattle.tablet.proofs.terminal.rows.Tie as tie
 
 abbrev Inv-loop : tie.InvT-loop
-Inv-loop kind c width values present q₀ r₀ q r = Unit {0}
+Inv-loop kind c width stretches q₀ r₀ q r = Unit {0}
 
 abbrev μ-loop : tie.MeasureT-loop
-μ-loop kind c width values present q₀ r₀ q r = (c .rows) - r
+μ-loop kind c width stretches q₀ r₀ q r = (c .rows) - r
 
 loop-holds : tie.Need-loop-holds Inv-loop μ-loop
 loop-holds c = search needs

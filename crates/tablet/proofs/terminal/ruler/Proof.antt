@@ -5,10 +5,10 @@ use Rattle.tablet.proofs.terminal.ruler.Statement.{statement}
 use Rattle.tablet.proofs.terminal.ruler.Tie as tie
 
 abbrev Inv-loop : tie.InvT-loop
-Inv-loop c values present n q₀ x₀ t10 q x = Unit {0}
+Inv-loop c stretches n q₀ x₀ t10 q x = Unit {0}
 
 abbrev μ-loop : tie.MeasureT-loop
-μ-loop c values present n q₀ x₀ t10 q x = (c .places) - x
+μ-loop c stretches n q₀ x₀ t10 q x = (c .places) - x
 
 cell-requires : tie.Need-cell-requires Inv-loop μ-loop
 cell-requires c κs = search needs
@@ -22,8 +22,8 @@ text-requires c κs = search needs
 loop-holds : tie.Need-loop-holds Inv-loop μ-loop
 loop-holds c = search needs
 
-stretch-at-requires : tie.Need-stretch-at-requires Inv-loop μ-loop
-stretch-at-requires c κs = search needs
+at-requires : tie.Need-at-requires Inv-loop μ-loop
+at-requires c κs = search needs
 
 tick-requires : tie.Need-tick-requires Inv-loop μ-loop
 tick-requires c κs = search needs
@@ -59,7 +59,7 @@ ruler-spec =
     slice-aggregate-text
     text-requires
     loop-holds
-    stretch-at-requires
+    at-requires
     tick-requires
     sign-requires
     add-x

@@ -1,0 +1,85 @@
+// Edits that take all readings of a column from a start on.
+ghost use lib.IntN.{pos};
+ghost use Rattle.splice.specs.Contract.{OptionalSpliced, BooleanSpliced};
+ghost use Rattle.splice.specs.Kinds.{integer, delta, boolean};
+ghost use Rattle.capi.specs.Told.{ToldEdit};
+use crate::Spliced;
+use crate::answers;
+use splice::End;
+
+#[no_mangle]
+pub extern "C" fn grundavok_splice_integer_to_end(
+    block: &[u8],
+    position: usize,
+    start: usize,
+    new_values: &[u64],
+    new_present: &[u8],
+    values: &mut [u64],
+    present: &mut [u8],
+    out: &mut [u8],
+) -> Spliced
+    ensures { λ r. ⌜ ToldEdit (OptionalSpliced integer 0 (now (block .entry)) position start End.OfList (now («new_values» .entry)) (now («new_present» .entry))
+        (now (values .entry)) (now (values .exit)) (now (present .entry)) (now (present .exit)) (now (out .entry)) (now (out .exit))) r ⌝ }
+{
+    answers::spliced(rle_range::splice_integer(
+        block,
+        position,
+        start,
+        End::OfList,
+        new_values,
+        new_present,
+        values,
+        present,
+        out,
+    ))
+}
+
+#[no_mangle]
+pub extern "C" fn grundavok_splice_delta_to_end(
+    block: &[u8],
+    position: usize,
+    start: usize,
+    new_values: &[i64],
+    new_present: &[u8],
+    values: &mut [i64],
+    present: &mut [u8],
+    out: &mut [u8],
+) -> Spliced
+    ensures { λ r. ⌜ ToldEdit (OptionalSpliced delta (pos 0) (now (block .entry)) position start End.OfList (now («new_values» .entry)) (now («new_present» .entry))
+        (now (values .entry)) (now (values .exit)) (now (present .entry)) (now (present .exit)) (now (out .entry)) (now (out .exit))) r ⌝ }
+{
+    answers::spliced(delta_range::splice_delta(
+        block,
+        position,
+        start,
+        End::OfList,
+        new_values,
+        new_present,
+        values,
+        present,
+        out,
+    ))
+}
+
+#[no_mangle]
+pub extern "C" fn grundavok_splice_boolean_to_end(
+    block: &[u8],
+    position: usize,
+    start: usize,
+    new_values: &[u8],
+    values: &mut [u8],
+    out: &mut [u8],
+) -> Spliced
+    ensures { λ r. ⌜ ToldEdit (BooleanSpliced boolean (now (block .entry)) position start End.OfList (now («new_values» .entry))
+        (now (values .entry)) (now (values .exit)) (now (out .entry)) (now (out .exit))) r ⌝ }
+{
+    answers::spliced(boolean_range::splice_boolean(
+        block,
+        position,
+        start,
+        End::OfList,
+        new_values,
+        values,
+        out,
+    ))
+}

@@ -1,0 +1,5 @@
+pub mod Calls
+pub mod Examples
+pub mod Held
+pub mod Outs
+pub mod SumCursors

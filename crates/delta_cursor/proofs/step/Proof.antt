@@ -1,0 +1,77 @@
+-- `delta_cursor::step` meets its contract: 24, or by what is ready. Assumes nothing.
+use mathlib.Core.Path.{_≡_, sym, _∙_}
+use native.Mathlib.Omega.{arith}
+use mir.Syntax.{w64}
+use mir.Val.{SFits}
+use mir.ValLaws.{toZ-ofZ}
+use borrow.Author.Needs.{needs}
+use Rattle.encoding.proofs.Via.{via}
+use Rattle.cursor.specs.Kept.{leaves}
+use Rattle.cursor.specs.Steps.{said}
+use Rattle.cursor.proofs.Cursors.{ready-some-left}
+use Rattle.delta_decoder.specs.Difference.{i64E}
+use Rattle.delta_decoder.proofs.DifferenceLaws.{i64-laws}
+use Rattle.delta_cursor.specs.Cases.{nextOf}
+use Rattle.delta_cursor.specs.SumCursor.{addStep}
+use Rattle.delta_cursor.proofs.Outs.{step-other, step-beyond, step-ready}
+use Rattle.delta_cursor.proofs.step.Statement.{statement}
+use Rattle.delta_cursor.proofs.step.Tie as tie
+
+returns : tie.Need-returns
+returns c = sym (step-other _ (c .before .before .before .args .cursor) (c .if1 .taken))
+
+returns-2 : tie.Need-returns-2
+returns-2 c = sym (step-beyond _ (c .before .before .before .before .before .args .cursor) (c .if2 .taken))
+
+ready-at-requires : tie.Need-ready-at-requires
+ready-at-requires c κs = search needs
+
+enum-known-d : tie.Need-enum-known-d
+enum-known-d c = search needs
+
+one-of-requires : tie.Need-one-of-requires
+one-of-requires c κs = ready-some-left i64E i64-laws _ _ _ (via nextOf (c .before .before .before .ready-at .ensures) (c .before .d .given .1))
+
+enum-told : tie.Need-enum-told
+enum-told c = search needs
+
+enum-known-n : tie.Need-enum-known-n
+enum-known-n c = search needs
+
+returns-3 : tie.Need-returns-3
+returns-3 c =
+    let a = c .before .before .before .before .before .before .before .before .before .before .before .args .cursor in
+    let f : SFits w64 (a .difference) = search needs in
+    let r = rw (toZ-ofZ w64 (a .difference) f) at (via nextOf (c .before .before .before .before .ready-at .ensures) (c .before .before .d .given .1)) in
+    c .one-of .ensures ∙ sym (step-ready _ a (omega arith) (c .before .before .before .before .before .before .if2 .left) r)
+
+returns-4 : tie.Need-returns-4
+unfolding addStep leaves said
+returns-4 c =
+    let a = c .before .before .before .before .before .before .before .before .before .args .cursor in
+    let f : SFits w64 (a .difference) = search needs in
+    let r = rw (toZ-ofZ w64 (a .difference) f) at (via nextOf (c .before .before .ready-at .ensures) (c .enum-told .given .1)) in
+    sym (step-ready _ a (omega arith) (c .before .before .before .before .if2 .left) r)
+
+returns-5 : tie.Need-returns-5
+unfolding addStep leaves said
+returns-5 c =
+    let a = c .before .before .before .before .before .before .before .before .before .before .args .cursor in
+    let f : SFits w64 (a .difference) = search needs in
+    let r = rw (toZ-ofZ w64 (a .difference) f) at (via nextOf (c .before .before .before .ready-at .ensures) (c .before .n .given .1)) in
+    sym (step-ready _ a (omega arith) (c .before .before .before .before .before .if2 .left) r)
+
+pub step-spec : {M : Type 1} → statement M
+step-spec =
+    tie.close
+    (tie.spec
+    returns
+    returns-2
+    ready-at-requires
+    enum-known-d
+    one-of-requires
+    enum-told
+    enum-known-n
+    returns-3
+    returns-4
+    returns-5)

@@ -1,0 +1,62 @@
+-- `tablet::read::say_between` is safe and ends. The measure is how many readings are left. Assumes nothing.
+use Prim.Native.Nat.{_-_}
+use borrow.Author.Needs.{needs}
+use Rattle.tablet.proofs.read.say_between.Statement.{statement}
+use Rattle.tablet.proofs.read.say_between.Tie as tie
+
+abbrev Inv-loop : tie.InvT-loop
+Inv-loop part kind a e q₀ w₀ i₀ q w i = Unit {0}
+
+abbrev μ-loop : tie.MeasureT-loop
+μ-loop part kind a e q₀ w₀ i₀ q w i = e - i
+
+begin-requires : tie.Need-begin-requires Inv-loop μ-loop
+begin-requires c κs = search needs
+
+loop-holds : tie.Need-loop-holds Inv-loop μ-loop
+loop-holds c = search needs
+
+step-requires : tie.Need-step-requires Inv-loop μ-loop
+step-requires c κs = search needs
+
+enum-known-next : tie.Need-enum-known-next Inv-loop μ-loop
+enum-known-next c = search needs
+
+say-line-requires : tie.Need-say-line-requires Inv-loop μ-loop
+say-line-requires c κs = search needs
+
+enum-known-number : tie.Need-enum-known-number Inv-loop μ-loop
+enum-known-number c = search needs
+
+returns : tie.Need-returns Inv-loop μ-loop
+returns c = search needs
+
+add-i : tie.Need-add-i Inv-loop μ-loop
+add-i c = search needs
+
+loop-less : tie.Need-loop-less Inv-loop μ-loop
+loop-less c = search needs
+
+loop-again : tie.Need-loop-again Inv-loop μ-loop
+loop-again c = search needs
+
+returns-2 : tie.Need-returns-2 Inv-loop μ-loop
+returns-2 c = search needs
+
+pub say-between-spec : {M : Type 1} → statement M
+say-between-spec =
+    tie.close
+    (tie.spec
+    Inv-loop
+    μ-loop
+    begin-requires
+    loop-holds
+    step-requires
+    enum-known-next
+    say-line-requires
+    enum-known-number
+    returns
+    add-i
+    loop-less
+    loop-again
+    returns-2)
