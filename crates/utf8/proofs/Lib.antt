@@ -1,0 +1,4 @@
+pub mod Joined
+pub mod Scalars
+pub mod Scanning
+pub mod Table

@@ -1,0 +1,3 @@
+pub mod Due
+pub mod Scalar
+pub mod Utf8
