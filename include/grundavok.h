@@ -172,7 +172,7 @@ typedef struct {
     size_t at;      /* 8: the position of what comes next */
     uint64_t had;   /* 16: how many readings come before the next run */
     uint64_t left;  /* 24: how many readings of the present run are left */
-    uint8_t sort;   /* 32: what they are: 0 absent, 1 one value that repeats, 2 (and above) literal values, read where they stand */
+    uint64_t sort;  /* 32: what they are: 0 absent, 1 one value that repeats, 2 (and above) literal values, read where they stand */
     uint64_t value; /* 40: the value that repeats, 0 where none does */
     size_t place;   /* 48: where it stands, 0 where none does */
 } grundavok_rle_cursor;
@@ -183,7 +183,7 @@ typedef struct {
     size_t at;          /* 8 */
     uint64_t had;       /* 16 */
     uint64_t left;      /* 24 */
-    uint8_t sort;       /* 32 */
+    uint64_t sort;      /* 32 */
     int64_t difference; /* 40: the difference that repeats, 0 where none does */
     size_t place;       /* 48: where it stands, 0 where none does */
     int64_t sum;        /* 56: the last reading that was present, 0 before the first */
@@ -195,7 +195,7 @@ typedef struct {
     size_t at;     /* 8 */
     uint64_t had;  /* 16 */
     uint64_t left; /* 24 */
-    uint8_t flag;  /* 32: what the readings of the present run are: 0 no, 1 (and above) yes */
+    uint64_t flag; /* 32: what the readings of the present run are: 0 no, 1 (and above) yes */
 } grundavok_boolean_cursor;
 
 /* ---- Numbers ---- */

@@ -51,7 +51,7 @@ void next_u8_is(int line, const char *call, grundavok_next_u8 r, uint8_t number,
     told(line, call, r.number == number && r.place == place && r.what == what && r.value == value);
 }
 
-/* A cursor has padding, so its numbers decide. */
+/* All numbers of a cursor. */
 void rle_cursor_is(int line, const char *what, grundavok_rle_cursor a, grundavok_rle_cursor b) {
     told(line, what, a.len == b.len && a.at == b.at && a.had == b.had && a.left == b.left);
     told(line, what, a.sort == b.sort && a.value == b.value && a.place == b.place);

@@ -76,6 +76,9 @@ static void rle_moved(void) {
     k.at = 3; /* at the end, in a run that repeats 7 */
     NEXT_U64(grundavok_rle_next(ALL(column), &k), 0, 0, PRESENT, 7);
     RLE_CURSOR(k, 3, 3, 5, 5, 1, 7, 8);
+    k = (grundavok_rle_cursor){3, 1, 2, 2, 257, 7, 8}; /* any sort above 1 is literal, and comes out as 2 */
+    NEXT_U64(grundavok_rle_next(ALL(column), &k), 0, 0, PRESENT, 1);
+    RLE_CURSOR(k, 3, 2, 2, 1, 2, 0, 0);
 }
 
 static void delta_steps(void) {
@@ -97,6 +100,9 @@ static void delta_steps(void) {
     NEXT_I64(grundavok_delta_next(SLICE(0x03, 0x7e), &k), 0, 0, PRESENT, -2);
     DELTA_CURSOR(k, 2, 2, 3, 2, 1, -2, 1, -2);
     NEXT_I64(grundavok_delta_next(SLICE(0x00, 0x09), &k), 0, 0, PRESENT, -4); /* another column of the same length */
+    k = (grundavok_delta_cursor){2, 1, 1, 1, 256, 7, 8, 5}; /* any sort above 1 is literal */
+    NEXT_I64(grundavok_delta_next(SLICE(0x03, 0x7e), &k), 0, 0, PRESENT, 3);
+    DELTA_CURSOR(k, 2, 2, 1, 0, 2, 0, 0, 3);
 }
 
 /* 2^62 twice: a sum that leaves int64_t inside a repeated run. */
@@ -132,6 +138,9 @@ static void boolean_steps(void) {
     BOOLEAN_CURSOR(k, 2, 1, 1, 0, 0);
     k = (grundavok_boolean_cursor){3, 0, 0, 2, 9}; /* any flag above 0 is yes */
     NEXT_U8(grundavok_boolean_next(ALL(column), &k), 0, 0, PRESENT, 1);
+    k = (grundavok_boolean_cursor){3, 0, 0, 2, 256};
+    NEXT_U8(grundavok_boolean_next(ALL(column), &k), 0, 0, PRESENT, 1);
+    BOOLEAN_CURSOR(k, 3, 0, 0, 1, 256);
 }
 
 void cursors(void) {

@@ -83,7 +83,7 @@ pub struct RleCursor {
     pub at: usize,
     pub had: u64,
     pub left: u64,
-    pub sort: u8,
+    pub sort: u64,
     pub value: u64,
     pub place: usize,
 }
@@ -95,7 +95,7 @@ pub struct DeltaCursor {
     pub at: usize,
     pub had: u64,
     pub left: u64,
-    pub sort: u8,
+    pub sort: u64,
     pub difference: i64,
     pub place: usize,
     pub sum: i64,
@@ -108,7 +108,7 @@ pub struct BooleanCursor {
     pub at: usize,
     pub had: u64,
     pub left: u64,
-    pub flag: u8,
+    pub flag: u64,
 }
 
 // Every pointer is that of a slice of its length, or of one cursor: never null, aligned, and, where it is `*mut`, lent by one `&mut`. That is

@@ -15,7 +15,7 @@ use Rattle.encoding.specs.Limit.{limit}
 use Rattle.encoding.specs.Walk.{Trace, Run, Next, over, on, off, whole, cut, stop, before, onward, after}
 use Rattle.encoding.proofs.Walking.{next-eq}
 use Rattle.cursor.specs.Steps.{gives, calls, said, nth, onto, ready, drawn}
-use Rattle.cursor.proofs.Stepping.{follows, only, Draws, says, Entering, Holds, keeps, ready-some, ready-none, ready-has, draws}
+use Rattle.cursor.proofs.Stepping.{follows, only, Draws, says, Entering, Holds, keeps, ready-some, ready-none, draws}
 use Rattle.cursor.proofs.Agreeing.{Agree, agree-on, u64-reads, drawn-alike}
 use Rattle.boolean_decoder.specs.Turns.{Turn, turn, counted, turnAt, turnsFrom, boolTrace}
 use Rattle.boolean_decoder.proofs.Turning.{turned, turns-on}
@@ -141,10 +141,6 @@ module _ (s : List ℕ) where
   pub ready-into : (c : TurnCursor) (x : Next TurnCursor) → c .left ≡ 0 → enterTurn s (c .at) (c .had) (c .flag) ≡ x → turnReady s c ≡ onto x (turnReady s)
   unfolding turnReady
   ready-into c x z e = ready-none entering c x z e
-
-  pub ready-some-left : (c d : TurnCursor) → turnReady s c ≡ on d → 0 < d .left
-  unfolding turnReady
-  ready-some-left c d e = ready-has entering c d e
 
 -- ---- two columns of one length that agree from the cursor's position on give the same step
 

@@ -6,7 +6,7 @@ ghost use lib.ListN.{length};
 ghost use Rattle.leb128.specs.Got.{got};
 ghost use Rattle.boolean_cursor.specs.Cases.{nextOf};
 ghost use Rattle.boolean_cursor.specs.State.{newFor, cursorOf, told, stepOf};
-ghost use Rattle.boolean_cursor.specs.TurnCursor.{counting, enterTurn, turnReady, oneTurn};
+ghost use Rattle.boolean_cursor.specs.TurnCursor.{byteOf, counting, enterTurn, oneTurn};
 use encoding::LIMIT;
 use leb128::ParsedU64;
 
@@ -22,7 +22,7 @@ pub struct BooleanCursor {
     // How many readings of the present count are left.
     pub left: u64,
     // What they are: 0 false, 1 true; any number above is true.
-    pub flag: u8,
+    pub flag: u64,
 }
 
 // The next reading, a byte 0 or 1; the end of the column; or a refusal's number and place.
@@ -59,14 +59,21 @@ pub fn new(column: &[u8]) -> BooleanCursor
 }
 
 // The other byte.
-fn other(flag: u8) -> u8
+fn other(flag: u64) -> u64
     ensures { λ r. ⌜ r ≡ 1 - flag ⌝ }
 {
     if flag == 0 { 1 } else { 0 }
 }
 
+// The reading that a flag stands for.
+fn byte(flag: u64) -> u8
+    ensures { λ r. ⌜ r ≡ byteOf flag ⌝ }
+{
+    if flag == 0 { 0 } else { 1 }
+}
+
 // Into a count c that stands at `at`, before `next`, behind `had` readings and a count of `flag`; it is judged for the limit when read.
-fn counted_at(len: usize, at: usize, had: u64, flag: u8, c: u64, next: usize) -> Reached
+fn counted_at(len: usize, at: usize, had: u64, flag: u64, c: u64, next: usize) -> Reached
     ensures { λ r. ⌜ nextOf r ≡ counting at had flag (got c next) ⌝ }
 {
     if had <= LIMIT {
@@ -84,7 +91,7 @@ fn counted_at(len: usize, at: usize, had: u64, flag: u8, c: u64, next: usize) ->
 }
 
 // Into the count at `at`.
-fn entered_at(column: &[u8], at: usize, had: u64, flag: u8) -> Reached
+fn entered_at(column: &[u8], at: usize, had: u64, flag: u64) -> Reached
     ensures { λ r. ⌜ nextOf r ≡ enterTurn (now (column .entry)) at had flag ⌝ }
 {
     let len = column.len();
@@ -97,33 +104,12 @@ fn entered_at(column: &[u8], at: usize, had: u64, flag: u8) -> Reached
     }
 }
 
-// The first state with a reading left: this one, or one in a later count. Counts of 0 are passed.
-fn ready_at(column: &[u8], cursor: BooleanCursor) -> Reached
-    ensures { λ r. ⌜ nextOf r ≡ turnReady (now (column .entry)) (cursorOf cursor) ⌝ }
-{
-    let mut c = cursor;
-    while c.left == 0 {
-        match entered_at(column, c.at, c.had, c.flag) {
-            Reached::On(d) => {
-                c = d;
-            }
-            Reached::Over => {
-                return Reached::Over;
-            }
-            Reached::Off(n, place) => {
-                return Reached::Off(n, place);
-            }
-        }
-    }
-    Reached::On(c)
-}
-
 // One reading of the present count of c, in a call that was lent `lent`.
 fn one_of(lent: BooleanCursor, c: BooleanCursor) -> BooleanStepped
     requires { ⌜ 0 < c .left ⌝ }
     ensures { λ r. ⌜ r ≡ told lent (oneTurn (cursorOf c)) ⌝ }
 {
-    let flag = other(other(c.flag));
+    let flag = byte(c.flag);
     let d = BooleanCursor {
         len: lent.len,
         at: c.at,
@@ -137,7 +123,8 @@ fn one_of(lent: BooleanCursor, c: BooleanCursor) -> BooleanStepped
     }
 }
 
-// One step, from any state: the next reading, the end or a refusal, and the state behind it.
+// One step, from any state: the next reading, the end or a refusal, and the state behind it. Where nothing is left of the present run the next
+// one is entered, and those that add nothing are passed.
 pub fn step(column: &[u8], cursor: BooleanCursor) -> BooleanStepped
     ensures { λ r. ⌜ r ≡ stepOf (now (column .entry)) cursor ⌝ }
 {
@@ -153,17 +140,30 @@ pub fn step(column: &[u8], cursor: BooleanCursor) -> BooleanStepped
             answer: BooleanAnswer::Refused(24, 0),
         };
     }
-    match ready_at(column, cursor) {
-        Reached::On(c) => one_of(cursor, c),
-        Reached::Over => BooleanStepped {
-            cursor: cursor,
-            answer: BooleanAnswer::End,
-        },
-        Reached::Off(n, place) => BooleanStepped {
-            cursor: cursor,
-            answer: BooleanAnswer::Refused(n, place),
-        },
+    if 0 < cursor.left {
+        return one_of(cursor, cursor);
     }
+    let mut c = cursor;
+    while c.left == 0 {
+        match entered_at(column, c.at, c.had, c.flag) {
+            Reached::On(d) => {
+                c = d;
+            }
+            Reached::Over => {
+                return BooleanStepped {
+                    cursor: cursor,
+                    answer: BooleanAnswer::End,
+                };
+            }
+            Reached::Off(n, place) => {
+                return BooleanStepped {
+                    cursor: cursor,
+                    answer: BooleanAnswer::Refused(n, place),
+                };
+            }
+        }
+    }
+    one_of(cursor, c)
 }
 
 // The next reading, the end or a refusal; the state is advanced in place.

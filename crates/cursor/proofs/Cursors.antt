@@ -19,7 +19,7 @@ use Rattle.encoding.proofs.Elements.{ElementLaws}
 use Rattle.encoding.proofs.Columns.{SaneHead, head-known, trace-on}
 use Rattle.cursor.specs.Steps.{gives, calls, said, nth, onto}
 use Rattle.cursor.specs.Cursor.{Sort, same, literal, Cursor, cursor, fresh, carried, entered, enter, oneLiteral, oneOf, one, readyAt, step, leftOf, coming}
-use Rattle.cursor.proofs.Stepping.{follows, only, Draws, says, Entering, ready-some, ready-none, ready-has, draws}
+use Rattle.cursor.proofs.Stepping.{follows, only, Draws, says, Entering, ready-some, ready-none, draws}
 
 module _ {A : Type 0} (E : Element A) (s : List ℕ) where
   -- ---- the run that is entered is the column's
@@ -169,7 +169,3 @@ module _ {A : Type 0} (E : Element A) (L : ElementLaws E) (s : List ℕ) where
   pub ready-into : (c : Cursor A) (x : Next (Cursor A)) → c .left ≡ 0 → enter E s (c .at) (c .had) ≡ x → readyAt E s c ≡ onto x (readyAt E s)
   unfolding readyAt
   ready-into c x z e = ready-none entering c x z e
-
-  pub ready-some-left : (c d : Cursor A) → readyAt E s c ≡ on d → 0 < d .left
-  unfolding readyAt
-  ready-some-left c d e = ready-has entering c d e

@@ -2,7 +2,7 @@
 -- is to come (`Draws`) says it call by call, and then the ending for ever (`says`). A step goes into the next run where none of the present
 -- one is left, again and again; how many it may enter does not matter (`ready-none`). Assumes nothing.
 use Prim.Native.Nat.{ℕ, zero, suc, _<_}
-use mathlib.Core.Path.{_≡_, refl, sym, _∙_, ap, subst}
+use mathlib.Core.Path.{_≡_, refl, sym, _∙_, ap}
 use mathlib.Core.List.{List, [], _∷_}
 use mathlib.Core.Bool.{Bool, true, false, cond}
 use native.Mathlib.Omega.{arith}
@@ -139,9 +139,3 @@ module _ {S : Type 0} (M : Entering S) where
 
       pub draws : Draws spread (λ c. drawn one (readyFrom c)) coming
       draws c = drawn-in (suc (M .size c)) c (omega arith)
-
-  -- what is ready has a reading left
-  pub ready-has : (c d : S) → readyFrom c ≡ on d → 0 < M .left d
-  ready-has c d e =
-      subst (λ (x : Next S). Holds (λ d. 0 < M .left d) (drawn (λ d. gives d d) x)) e
-      (keeps (λ d. gives d d) (λ d. Unit {0}) (λ d. 0 < M .left d) (λ c d p h. tt) (λ c p l. l) c tt)

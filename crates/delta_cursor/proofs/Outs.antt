@@ -1,6 +1,6 @@
 -- What a step answers and leaves, by each way out of the code. Assumes nothing.
 use Prim.Native.Nat.{ℕ, _-_, _≤_, _<_}
-use mathlib.Core.Path.{_≡_, _∙_, ap}
+use mathlib.Core.Path.{_≡_, sym, _∙_, ap}
 use mathlib.Core.List.{List}
 use mathlib.Core.Option.{Option, none, some}
 use lib.IntN.{ℤ}
@@ -17,7 +17,7 @@ use Rattle.delta_decoder.specs.Difference.{i64E}
 use Rattle.delta_decoder.specs.Sums.{heldSum}
 use Rattle.delta_cursor.specs.SumCursor.{summing, summed, addStep, deltaStep}
 use Rattle.delta_cursor.specs.State.{cursorOf, kept, told, stepOf}
-use Rattle.delta_cursor.specs.Cases.{differencesOf, oneRepeat}
+use Rattle.delta_cursor.specs.Cases.{differencesIn, differencesOf, oneRepeat}
 use Rattle.delta_cursor.specs.declared.DeltaCursor.{DeltaCursor}
 use Rattle.delta_cursor.specs.declared.Differences.{Differences}
 use Rattle.delta_cursor.specs.declared.DeltaStepped.{DeltaStepped}
@@ -106,10 +106,11 @@ module _ (s : List ℕ) (k : DeltaCursor) where
   unfolding stepOf leaves said
   step-beyond l = ap (told k) (checked-beyond (k .len) (k .at) s (deltaStep s (cursorOf k)) l)
 
-  -- a state that passes: by what is ready
-  pub step-ready : {x : Next (Cursor ℤ)} → k .len ≡ length s → k .at ≤ length s → readyAt i64E s (cursorOf k .differences) ≡ x
-      → stepOf s k ≡ told k (addStep (k .sum) (drawn (one i64E s) x))
+  -- a state that passes: by what is ready from where it stands in the differences
+  pub step-ready : {c : Differences} {x : Next (Cursor ℤ)} → k .len ≡ length s → k .at ≤ length s → c ≡ differencesIn k
+      → readyAt i64E s (differencesOf c) ≡ x → stepOf s k ≡ told k (addStep (k .sum) (drawn (one i64E s) x))
   unfolding stepOf deltaStep step
-  step-ready e l h =
+  step-ready e l w h =
       ap (told k) (checked-passes (k .len) (k .at) s (deltaStep s (cursorOf k)) e l)
+      ∙ ap (λ (c : Differences). told k (addStep (k .sum) (drawn (one i64E s) (readyAt i64E s (differencesOf c))))) (sym w)
       ∙ ap (λ (x : Next (Cursor ℤ)). told k (addStep (k .sum) (drawn (one i64E s) x))) h

@@ -7,11 +7,17 @@ use Rattle.encoding.specs.Column.{Reading, present}
 use Rattle.cursor.specs.Steps.{Stepped, gives}
 use Rattle.cursor.specs.Cursor.{same, Cursor, cursor}
 use Rattle.cursor.specs.Kept.{sortOf}
+use Rattle.delta_cursor.specs.declared.DeltaCursor.{DeltaCursor}
 use Rattle.delta_cursor.specs.declared.Differences.{Differences}
 use Rattle.delta_cursor.specs.declared.Reached.{Reached}
 use Rattle.delta_cursor.specs.declared.Reached.the-variants as reached
 use Rattle.delta_cursor.specs.declared.Sum.{Sum}
 use Rattle.delta_cursor.specs.declared.Sum.the-variants as sum
+
+-- where a state stands in the differences
+abbrev pub differencesIn : DeltaCursor → Differences
+differencesIn k =
+    record { at = k .at; had = k .had; left = k .left; sort = k .sort; difference = k .difference; place = k .place }
 
 abbrev pub differencesOf : Differences → Cursor ℤ
 differencesOf d = cursor (d .at) (d .had) (d .left) (sortOf (d .sort) (d .difference) (d .place))

@@ -7,10 +7,10 @@ ghost use lib.IntN.{_+ℤ_};
 ghost use lib.ListN.{length};
 ghost use Rattle.leb128.specs.Read.{i64At};
 ghost use Rattle.encoding.specs.Limit.{limit};
-ghost use Rattle.cursor.specs.Cursor.{carried, enter, oneLiteral, one, readyAt};
+ghost use Rattle.cursor.specs.Cursor.{carried, enter, oneLiteral, one};
 ghost use Rattle.delta_decoder.specs.Difference.{holds, i64E};
 ghost use Rattle.delta_decoder.specs.Sums.{heldSum};
-ghost use Rattle.delta_cursor.specs.Cases.{differencesOf, nextOf, sumOf, oneRepeat};
+ghost use Rattle.delta_cursor.specs.Cases.{differencesIn, differencesOf, nextOf, sumOf, oneRepeat};
 ghost use Rattle.delta_cursor.specs.State.{bareAt, newFor, told, stepOf};
 ghost use Rattle.delta_cursor.specs.SumCursor.{addStep};
 use encoding::Head;
@@ -20,11 +20,11 @@ use leb128::magnitude;
 const HALF: u64 = 9223372036854775808;
 
 // The sorts of a run, as a state has them; any number above is LITERAL too.
-const ABSENT: u8 = 0;
+const ABSENT: u64 = 0;
 
-const REPEAT: u8 = 1;
+const REPEAT: u64 = 1;
 
-const LITERAL: u8 = 2;
+const LITERAL: u64 = 2;
 
 // The state that the host keeps; any numbers are one.
 #[repr(C)]
@@ -38,7 +38,7 @@ pub struct DeltaCursor {
     // How many readings of the present run are left.
     pub left: u64,
     // What they are: 0 absent, 1 sums of a difference that repeats, 2 sums of literal differences, each read where it stands.
-    pub sort: u8,
+    pub sort: u64,
     // The difference that repeats, and its place; both 0 where none does.
     pub difference: i64,
     pub place: usize,
@@ -60,12 +60,12 @@ pub struct DeltaStepped {
     pub answer: DeltaAnswer,
 }
 
-// Where a state stands in the differences: its numbers but for the length and the sum.
+// A state's numbers but for the length and the sum.
 struct Differences {
     at: usize,
     had: u64,
     left: u64,
-    sort: u8,
+    sort: u64,
     difference: i64,
     place: usize,
 }
@@ -84,7 +84,7 @@ enum Sum {
 }
 
 // The state in an absent or a literal run, which carries no difference.
-fn bare(len: usize, at: usize, had: u64, left: u64, sort: u8, sum: i64) -> DeltaCursor
+fn bare(len: usize, at: usize, had: u64, left: u64, sort: u64, sum: i64) -> DeltaCursor
     ensures { λ r. ⌜ r ≡ bareAt len at had left sort sum ⌝ }
 {
     DeltaCursor {
@@ -104,6 +104,20 @@ pub fn new(column: &[u8]) -> DeltaCursor
     ensures { λ r. ⌜ r ≡ newFor (length (now (column .entry))) ⌝ }
 {
     bare(column.len(), 0, 0, 0, ABSENT, 0)
+}
+
+// Where a state stands in the differences.
+fn within(cursor: DeltaCursor) -> Differences
+    ensures { λ r. ⌜ r ≡ differencesIn cursor ⌝ }
+{
+    Differences {
+        at: cursor.at,
+        had: cursor.had,
+        left: cursor.left,
+        sort: cursor.sort,
+        difference: cursor.difference,
+        place: cursor.place,
+    }
 }
 
 // Into a repeated run of c readings behind `had` others, whose difference stands at q.
@@ -151,27 +165,6 @@ fn entered_at(column: &[u8], at: usize, had: u64) -> Reached
         }),
         Head::Refused(n, place) => Reached::Off(n, place),
     }
-}
-
-// The first place with a reading left: this one, or one in a later run. Runs that add nothing are passed.
-fn ready_at(column: &[u8], differences: Differences) -> Reached
-    ensures { λ r. ⌜ nextOf r ≡ readyAt i64E (now (column .entry)) (differencesOf differences) ⌝ }
-{
-    let mut c = differences;
-    while c.left == 0 {
-        match entered_at(column, c.at, c.had) {
-            Reached::On(d) => {
-                c = d;
-            }
-            Reached::Over => {
-                return Reached::Over;
-            }
-            Reached::Off(n, place) => {
-                return Reached::Off(n, place);
-            }
-        }
-    }
-    Reached::On(c)
 }
 
 // Does an i64 hold z + d?
@@ -271,7 +264,8 @@ fn one_of(column: &[u8], lent: DeltaCursor, c: Differences) -> DeltaStepped
     literal_at(column, lent, c)
 }
 
-// One step, from any state: the next reading, the end or a refusal, and the state behind it.
+// One step, from any state: the next reading, the end or a refusal, and the state behind it. Where nothing is left of the present run the next
+// one is entered, and those that add nothing are passed.
 pub fn step(column: &[u8], cursor: DeltaCursor) -> DeltaStepped
     ensures { λ r. ⌜ r ≡ stepOf (now (column .entry)) cursor ⌝ }
 {
@@ -287,25 +281,27 @@ pub fn step(column: &[u8], cursor: DeltaCursor) -> DeltaStepped
             answer: DeltaAnswer::Refused(24, 0),
         };
     }
-    let c = Differences {
-        at: cursor.at,
-        had: cursor.had,
-        left: cursor.left,
-        sort: cursor.sort,
-        difference: cursor.difference,
-        place: cursor.place,
-    };
-    match ready_at(column, c) {
-        Reached::On(d) => one_of(column, cursor, d),
-        Reached::Over => DeltaStepped {
-            cursor: cursor,
-            answer: DeltaAnswer::End,
-        },
-        Reached::Off(n, place) => DeltaStepped {
-            cursor: cursor,
-            answer: DeltaAnswer::Refused(n, place),
-        },
+    let mut c = within(cursor);
+    while c.left == 0 {
+        match entered_at(column, c.at, c.had) {
+            Reached::On(d) => {
+                c = d;
+            }
+            Reached::Over => {
+                return DeltaStepped {
+                    cursor: cursor,
+                    answer: DeltaAnswer::End,
+                };
+            }
+            Reached::Off(n, place) => {
+                return DeltaStepped {
+                    cursor: cursor,
+                    answer: DeltaAnswer::Refused(n, place),
+                };
+            }
+        }
     }
+    one_of(column, cursor, c)
 }
 
 // The next reading, the end or a refusal; the state is advanced in place.

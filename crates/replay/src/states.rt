@@ -20,7 +20,7 @@ pub struct State {
     pub had: u64,
     pub left: u64,
     // or the flag of a boolean column
-    pub sort: u8,
+    pub sort: u64,
     pub value: u64,
     pub place: usize,
     pub sum: u64,

@@ -69,12 +69,9 @@ fn take_state(kind: Kind, line: &[u8], c: Cursor, column: &[u8]) -> Given {
     let mut numbers = [0u64; 8];
     let taken = lists::take_u64(line, c, &mut numbers);
     let rest = taken.rest;
-    let sort = numbers[4];
     let state = state_of(numbers);
     if taken.value == states::size(kind) as u64 {
-        if sort <= 255 {
-            return Given { state, rest };
-        }
+        return Given { state, rest };
     }
     Given {
         state,
@@ -88,7 +85,7 @@ fn state_of(numbers: [u64; 8]) -> State {
         at: numbers[1] as usize,
         had: numbers[2],
         left: numbers[3],
-        sort: (numbers[4] % 256) as u8,
+        sort: numbers[4],
         value: numbers[5],
         place: numbers[6] as usize,
         sum: numbers[7],
@@ -210,7 +207,7 @@ fn expect_state(kind: Kind, line: &[u8], c: Cursor, s: State) -> Cursor {
         s.at as u64,
         s.had,
         s.left,
-        s.sort as u64,
+        s.sort,
         s.value,
         s.place as u64,
         s.sum,

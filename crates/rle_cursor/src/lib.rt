@@ -5,7 +5,7 @@ ghost use Prim.Native.Nat.{_+_, _≤_, _<_};
 ghost use lib.ListN.{length};
 ghost use Rattle.leb128.specs.Read.{u64At};
 ghost use Rattle.encoding.specs.Limit.{limit};
-ghost use Rattle.cursor.specs.Cursor.{carried, enter, oneLiteral, one, readyAt};
+ghost use Rattle.cursor.specs.Cursor.{carried, enter, oneLiteral, one};
 ghost use Rattle.rle_decoder.specs.Word.{u64E};
 ghost use Rattle.rle_cursor.specs.Cases.{nextOf};
 ghost use Rattle.rle_cursor.specs.State.{bareAt, newFor, cursorOf, told, stepOf};
@@ -13,11 +13,11 @@ use encoding::Head;
 use leb128::ParsedU64;
 
 // The sorts of a run, as a state has them; any number above is LITERAL too.
-const ABSENT: u8 = 0;
+const ABSENT: u64 = 0;
 
-const REPEAT: u8 = 1;
+const REPEAT: u64 = 1;
 
-const LITERAL: u8 = 2;
+const LITERAL: u64 = 2;
 
 // The state that the host keeps; any numbers are one.
 #[repr(C)]
@@ -31,7 +31,7 @@ pub struct RleCursor {
     // How many readings of the present run are left.
     pub left: u64,
     // What they are: 0 absent, 1 a value that repeats, 2 literal values, each read where it stands.
-    pub sort: u8,
+    pub sort: u64,
     // The value that repeats, and its place; both 0 where none does.
     pub value: u64,
     pub place: usize,
@@ -59,7 +59,7 @@ enum Reached {
 }
 
 // The state in an absent or a literal run, which carries no value.
-fn bare(len: usize, at: usize, had: u64, left: u64, sort: u8) -> RleCursor
+fn bare(len: usize, at: usize, had: u64, left: u64, sort: u64) -> RleCursor
     ensures { λ r. ⌜ r ≡ bareAt len at had left sort ⌝ }
 {
     RleCursor {
@@ -115,27 +115,6 @@ fn entered_at(column: &[u8], at: usize, had: u64) -> Reached
     }
 }
 
-// The first state with a reading left: this one, or one in a later run. Runs that add nothing are passed.
-fn ready_at(column: &[u8], cursor: RleCursor) -> Reached
-    ensures { λ r. ⌜ nextOf r ≡ readyAt u64E (now (column .entry)) (cursorOf cursor) ⌝ }
-{
-    let mut c = cursor;
-    while c.left == 0 {
-        match entered_at(column, c.at, c.had) {
-            Reached::On(d) => {
-                c = d;
-            }
-            Reached::Over => {
-                return Reached::Over;
-            }
-            Reached::Off(n, place) => {
-                return Reached::Off(n, place);
-            }
-        }
-    }
-    Reached::On(c)
-}
-
 // The literal value at c, in a call that was lent `lent`.
 fn literal_at(column: &[u8], lent: RleCursor, c: RleCursor) -> RleStepped
     requires { ⌜ 0 < c .left ⌝ }
@@ -182,7 +161,8 @@ fn one_of(column: &[u8], lent: RleCursor, c: RleCursor) -> RleStepped
     literal_at(column, lent, c)
 }
 
-// One step, from any state: the next reading, the end or a refusal, and the state behind it.
+// One step, from any state: the next reading, the end or a refusal, and the state behind it. Where nothing is left of the present run the next
+// one is entered, and those that add nothing are passed.
 pub fn step(column: &[u8], cursor: RleCursor) -> RleStepped
     ensures { λ r. ⌜ r ≡ stepOf (now (column .entry)) cursor ⌝ }
 {
@@ -198,17 +178,30 @@ pub fn step(column: &[u8], cursor: RleCursor) -> RleStepped
             answer: RleAnswer::Refused(24, 0),
         };
     }
-    match ready_at(column, cursor) {
-        Reached::On(c) => one_of(column, cursor, c),
-        Reached::Over => RleStepped {
-            cursor: cursor,
-            answer: RleAnswer::End,
-        },
-        Reached::Off(n, place) => RleStepped {
-            cursor: cursor,
-            answer: RleAnswer::Refused(n, place),
-        },
+    if 0 < cursor.left {
+        return one_of(column, cursor, cursor);
     }
+    let mut c = cursor;
+    while c.left == 0 {
+        match entered_at(column, c.at, c.had) {
+            Reached::On(d) => {
+                c = d;
+            }
+            Reached::Over => {
+                return RleStepped {
+                    cursor: cursor,
+                    answer: RleAnswer::End,
+                };
+            }
+            Reached::Off(n, place) => {
+                return RleStepped {
+                    cursor: cursor,
+                    answer: RleAnswer::Refused(n, place),
+                };
+            }
+        }
+    }
+    one_of(column, cursor, c)
 }
 
 // The next reading, the end or a refusal; the state is advanced in place.
