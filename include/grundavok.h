@@ -13,17 +13,19 @@
  * ANSWERS are structs by value. `number` is 0 where the call was accepted, and else the refusal's; `place` is the refusal's place and
  * 0 where there is none; every other number of a refusal is 0. Any bytes, lists and ranges may go to any function.
  *
- *   1  the bytes end within a number, after one with bit 7 set      its first byte
+ *   1  the bytes end within a number, after one with bit 7 set,     its first byte;
+ *      or fewer are there than a name has                           of a name its length number's
  *   2  number too large for its type                                its first byte
  *   3  overlong number                                              its first byte
  *   4  zero where nonzero was asked                                 its first byte
  *   5  a list passes 4,294,967,295 values                           the count that does it; 0 for a lent or resulting list
  *   6  a delta sum leaves int64_t                                   the delta
  *   7  a difference to be written leaves int64_t                    index in the list
- *   8  slices of one list of unequal length, or a presence          0 for lengths, judged first,
- *      or boolean byte above 1 in a given list                      else the first bad index
+ *   8  slices of one list of unequal length, or in a given list a   0 for lengths, judged first,
+ *      presence or boolean byte above 1, or a name that reaches     else the first bad index
+ *      outside the bytes that are lent for it
  *   9  too few slots                                                0
- *  10  output too short                                             0
+ *  10  output too short; names that take more than 2^64 - 1 bytes   0
  *  11  more than 64 columns                                         0
  *  12  table not in normal order                                    0
  *  13  a specification has bit 3 set                                0
@@ -33,22 +35,32 @@
  *  17  column type not served by the call                           0
  *  18  range end below its start, or start or end beyond the list   0
  *  19  column id of 2^28 or more                                    0
+ *  20  a name that is not UTF-8 (RFC 3629)                          its length number; of a given list the index
  *  21  no byte where a number is due                                the length, where its first byte would be
  *  24  a cursor for a column of another length, or beyond its end   0
  *
- * Places inside a column count from the column's first byte. A copy that ends between two numbers gets 21, one that ends within a number 1;
- * but a column whose bytes end where a run would begin is whole.
+ * Places inside a column count from the column's first byte. A copy that ends between two numbers gets 21, one that ends within a number, or
+ * with too few bytes of a name, 1; but a column whose bytes end where a run would begin is whole.
  *
  * WHAT IS LEFT BEHIND: on success an output holds the result at its front and is otherwise unchanged; decoded readings fill the first
- * slots, the rest unchanged. A refusal changes neither, but for an edit that is refused with 7 or 10 (see there).
+ * slots, the rest unchanged. A refusal changes neither, but for an edit that is refused with 7 or 10 (see there; not of names).
  *
  * A COLUMN CAN ANNOUNCE MORE THAN YOU WILL HOLD: the six bytes ff ff ff ff 0f 05 are a sound column of 4,294,967,295 readings. Before you
  * make slots for a column whose bytes you do not trust, ask its count, which costs what its bytes cost, and compare it with the most
- * readings that you will hold; or lend as many slots as you will hold, and take 9 for an answer; or read it by a cursor, which needs no slots.
- * The same is true of an edit: its slots hold the longer of old and new list.
+ * readings that you will hold; or lend as many slots as you will hold, and take 9 for an answer; or read it by a cursor, which needs no slots
+ * (names have none). The same is true of an edit: its slots hold the longer of old and new list.
  *
  * LISTS: an optional list is a slice of values and an equally long slice of presence bytes, 1 or 0. The value of an absent reading is
  * not looked at in a given list, and is 0 in filled slots. A boolean list is one slice of bytes, 1 or 0.
+ *
+ * NAMES: a list of names is three equally long slices, starts, lengths and presence bytes, 1 or 0; no name is copied into it. The pairs of
+ * a decoded list count in the column, so that a name is lens[i] bytes from s + starts[i] on, with no 0 behind them:
+ *
+ *     for (size_t i = 0; i < r.count; i++)
+ *         if (present[i]) show(s + starts[i], lens[i]); else show_absent();
+ *
+ * The readings of a repeated run have one start. An empty name's start is the byte behind its length number, possibly the column's length.
+ * The pairs of a given list count in the bytes that are lent beside it, and may overlap; the pair of an absent name is not looked at.
  */
 #ifndef GRUNDAVOK_H
 #define GRUNDAVOK_H
@@ -282,6 +294,28 @@ grundavok_counted grundavok_boolean_encode(const uint8_t *values, size_t values_
 grundavok_counted grundavok_boolean_maybe_encoded_len(const uint8_t *values, size_t values_len);
 grundavok_counted grundavok_boolean_maybe_encode(const uint8_t *values, size_t values_len, uint8_t *out, size_t out_len);
 
+/* ---- Columns of names (String) ---- */
+
+/* How many names the column s has, the absent ones too. Refusals: the column's first fault, 1, 2, 3, 5, 20 or 21; of one name 1 comes
+ * before 20. */
+grundavok_counted grundavok_text_count(const uint8_t *s, size_t s_len);
+
+/* The start and length of each name in s into the first slots, both 0 where it is absent; count is how many. Refusals, in this order: 8
+ * where any two of the three lengths differ, the column's first fault (as for the count), 9. A refusal leaves every slot as it was. */
+grundavok_counted grundavok_text_decode(const uint8_t *s, size_t s_len, uint64_t *starts, size_t starts_len, uint64_t *lens,
+                                        size_t lens_len, uint8_t *present, size_t present_len);
+
+/* How many bytes the list takes as a column. Refusals, in this order: 8, 20, 5, 10. A pair is bad (8) when start and length together pass
+ * the lent bytes, with length 0 too. Names that overlap can take more bytes than are lent: 10 where a uint64_t does not count them. */
+grundavok_counted grundavok_text_encoded_len(const uint8_t *bytes, size_t bytes_len, const uint64_t *starts, size_t starts_len,
+                                             const uint64_t *lens, size_t lens_len, const uint8_t *present, size_t present_len);
+
+/* The list as a column at the front of out; count is how many bytes. Refusals, in this order: 8, 20, 5, 10; out is then unchanged. A list
+ * with no name present writes nothing. */
+grundavok_counted grundavok_text_encode(const uint8_t *bytes, size_t bytes_len, const uint64_t *starts, size_t starts_len,
+                                        const uint64_t *lens, size_t lens_len, const uint8_t *present, size_t present_len, uint8_t *out,
+                                        size_t out_len);
+
 /* ---- Tables: a block is a table followed directly by its column data and nothing more ---- */
 
 /* Refusals ("table faults"): 1, 2, 3, 21 and 11 left to right, 11 as soon as the count is read; then 12, 13, 14, 15. */
@@ -328,6 +362,24 @@ grundavok_spliced grundavok_splice_boolean(const uint8_t *block, size_t block_le
 grundavok_spliced grundavok_splice_boolean_to_end(const uint8_t *block, size_t block_len, size_t position, size_t start,
                                                   const uint8_t *new_values, size_t new_values_len, uint8_t *values, size_t values_len,
                                                   uint8_t *out, size_t out_len);
+
+/* The same of names, in a String column. Refusals in the same order, with 20 directly after 8 and without 7; of 8 the lengths first (those of
+ * new_starts, new_lens and new_present, or of starts, lens and present), then the first new name whose byte is above 1 or whose pair reaches
+ * outside `bytes`. The place of 20 is the index among the new names.
+ * On success the slots hold the new list, its starts in the NEW column, which is the part of out that grundavok_locate gives: so the start of
+ * a name that nobody touched can change too. Then absent zeros (0, 0, 0) up to the old list's length where that was longer, the rest
+ * unchanged. A new list with no name present writes no column, and its pairs are 0. No refusal changes a slot or out, 10 too. */
+grundavok_spliced grundavok_splice_text(const uint8_t *block, size_t block_len, size_t position, size_t start, size_t end,
+                                        const uint8_t *bytes, size_t bytes_len, const uint64_t *new_starts, size_t new_starts_len,
+                                        const uint64_t *new_lens, size_t new_lens_len, const uint8_t *new_present,
+                                        size_t new_present_len, uint64_t *starts, size_t starts_len, uint64_t *lens, size_t lens_len,
+                                        uint8_t *present, size_t present_len, uint8_t *out, size_t out_len);
+grundavok_spliced grundavok_splice_text_to_end(const uint8_t *block, size_t block_len, size_t position, size_t start,
+                                               const uint8_t *bytes, size_t bytes_len, const uint64_t *new_starts,
+                                               size_t new_starts_len, const uint64_t *new_lens, size_t new_lens_len,
+                                               const uint8_t *new_present, size_t new_present_len, uint64_t *starts,
+                                               size_t starts_len, uint64_t *lens, size_t lens_len, uint8_t *present,
+                                               size_t present_len, uint8_t *out, size_t out_len);
 
 /* The first `old` slots of `held` are a list; its elements from start up to end are replaced in place. count is the new list's length; the
  * slots behind it are 0 up to `old`, the rest unchanged. Refusals: 18 for end below start, or end beyond `old`; then 9 where slots are

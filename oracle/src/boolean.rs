@@ -22,15 +22,15 @@ pub fn encode_maybe(list: &[bool]) -> Vec<u8> {
 }
 
 pub fn decode(column: &[u8], most: usize) -> Result<Vec<bool>, Refusal> {
-    readings(column, BooleanDecoder::from(column), most)
+    readings(BooleanDecoder::from(column), most)
 }
 
 pub fn walk(column: &[u8], most: usize) -> Walk<bool> {
-    crate::walk(column, BooleanDecoder::from(column), most)
+    crate::walk(BooleanDecoder::from(column), most)
 }
 
 pub fn decode_maybe(column: &[u8], most: usize) -> Result<Vec<Option<bool>>, Refusal> {
-    readings(column, MaybeBooleanDecoder::from(column), most)
+    readings(MaybeBooleanDecoder::from(column), most)
 }
 
 /// The column with the values from `start` up to `end` replaced: the crate's own splice of these columns is not in the

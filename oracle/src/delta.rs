@@ -14,7 +14,7 @@ pub fn encode(list: &[Option<i64>]) -> Vec<u8> {
 
 pub fn decode(column: &[u8], most: usize) -> Result<Vec<Option<i64>>, Refusal> {
     let decoder = DeltaRange::from(0..column.len()).decoder(column);
-    readings(column, decoder, most)
+    readings(decoder, most)
 }
 
 /// The index of the first reading, of those up to the column's first fault, whose sum leaves i64. There `decode` panics.
@@ -33,9 +33,9 @@ fn leaving(column: &[u8], most: usize) -> Option<usize> {
 pub fn walk(column: &[u8], most: usize) -> Walk<Option<i64>> {
     let decoder = DeltaRange::from(0..column.len()).decoder(column);
     let Some(index) = leaving(column, most) else {
-        return crate::walk(column, decoder, most);
+        return crate::walk(decoder, most);
     };
-    let mut walk = crate::walk(column, decoder.take(index), most);
+    let mut walk = crate::walk(decoder.take(index), most);
     walk.ending = walk.ending.and(Err(6));
     walk
 }
@@ -51,7 +51,7 @@ pub fn splice(
     let new = new.iter().map(|reading| Ok::<_, Infallible>(*reading));
     match DeltaRange::from(0..column.len()).splice(column, start..end, new, &mut out) {
         Ok(_) => Ok(out),
-        Err(SpliceError::ReadExisting(e)) => Err(column_refusal(column, &e)),
+        Err(SpliceError::ReadExisting(e)) => Err(column_refusal(&e)),
         Err(SpliceError::ReadReplace(e)) => match e {},
     }
 }

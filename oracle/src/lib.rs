@@ -10,6 +10,7 @@ pub mod records;
 pub mod rle;
 pub mod specifications;
 pub mod table;
+pub mod text;
 
 use columnar::encoding::{raw, DecodeError};
 
@@ -27,11 +28,7 @@ pub struct Walk<T> {
 }
 
 /// The readings of a column one by one, and then its end, which has to come again when it is asked for again.
-fn walk<T>(
-    column: &[u8],
-    mut decoder: impl Iterator<Item = Result<T, raw::Error>>,
-    most: usize,
-) -> Walk<T> {
+fn walk<T>(mut decoder: impl Iterator<Item = Result<T, raw::Error>>, most: usize) -> Walk<T> {
     let mut readings = vec![];
     let ending = loop {
         match decoder.next() {
@@ -39,7 +36,7 @@ fn walk<T>(
                 assert!(decoder.next().is_none() && decoder.next().is_none());
                 break Ok(());
             }
-            Some(Err(e)) => break Err(column_refusal(column, &e)),
+            Some(Err(e)) => break Err(column_refusal(&e)),
             Some(Ok(_)) if readings.len() == most => break Err(TOO_MANY),
             Some(Ok(reading)) => readings.push(reading),
         }
@@ -49,19 +46,21 @@ fn walk<T>(
 
 /// At most `most` readings of a column, or the number of the first fault.
 fn readings<T>(
-    column: &[u8],
     decoder: impl Iterator<Item = Result<T, raw::Error>>,
     most: usize,
 ) -> Result<Vec<T>, Refusal> {
-    let walk = walk(column, decoder, most);
+    let walk = walk(decoder, most);
     walk.ending.map(|()| walk.readings)
 }
 
-fn column_refusal(column: &[u8], error: &raw::Error) -> Refusal {
+fn column_refusal(error: &raw::Error) -> Refusal {
     match error {
         raw::Error::Decode(DecodeError::Strict(e)) => numbers::refusal(e),
-        raw::Error::Decode(DecodeError::Ended)
-        | raw::Error::BufferSizeDidNotChange
-        | raw::Error::TryingToReadPastEnd => numbers::ended(column),
+        raw::Error::Decode(DecodeError::Ended(refusal)) => *refusal,
+        raw::Error::Decode(DecodeError::Cut) => 1,
+        raw::Error::Decode(DecodeError::NotUtf8) => 20,
+        raw::Error::BufferSizeDidNotChange | raw::Error::TryingToReadPastEnd => {
+            unreachable!("no reading takes no byte, and nothing asks for raw bytes")
+        }
     }
 }

@@ -10,6 +10,9 @@ mod optional;
 mod rle;
 mod specifications;
 mod tables;
+mod text;
+mod text_edits;
+mod utf8;
 mod walks;
 mod writing;
 
@@ -32,7 +35,7 @@ pub struct Family {
     write: fn(&mut String, &Options, &mut Random),
 }
 
-pub const FAMILIES: [Family; 13] = [
+pub const FAMILIES: [Family; 17] = [
     Family {
         name: "numbers-short",
         about: "the four readers on all inputs of 0 to 2 bytes",
@@ -97,6 +100,26 @@ pub const FAMILIES: [Family; 13] = [
         name: "edits",
         about: "edits of integer, delta and boolean columns, sound and refused ones",
         write: edits::all,
+    },
+    Family {
+        name: "text-lists",
+        about: "lists of optional names written as String columns",
+        write: text::lists,
+    },
+    Family {
+        name: "text-bytes",
+        about: "String columns, sound and faulty ones, counted and decoded",
+        write: text::bytes,
+    },
+    Family {
+        name: "text-edits",
+        about: "edits of String columns, sound and refused ones",
+        write: text_edits::all,
+    },
+    Family {
+        name: "utf8",
+        about: "bytes, whether they are UTF-8, and which bytes may stand behind them",
+        write: utf8::all,
     },
 ];
 

@@ -14,17 +14,17 @@ pub fn encode(list: &[Option<u64>]) -> Vec<u8> {
 }
 
 pub fn decode(column: &[u8], most: usize) -> Result<Vec<Option<u64>>, Refusal> {
-    readings(column, RleDecoder::<u64>::from(column), most)
+    readings(RleDecoder::<u64>::from(column), most)
 }
 
 pub fn walk(column: &[u8], most: usize) -> Walk<Option<u64>> {
-    crate::walk(column, RleDecoder::<u64>::from(column), most)
+    crate::walk(RleDecoder::<u64>::from(column), most)
 }
 
 /// What the decoder gives at each of so many calls of its `next`, behind a fault too.
 pub fn answers(column: &[u8], calls: usize) -> Vec<Option<Result<Option<u64>, Refusal>>> {
     let mut decoder = RleDecoder::<u64>::from(column);
-    let refusal = |reading: Result<_, raw::Error>| reading.map_err(|e| column_refusal(column, &e));
+    let refusal = |reading: Result<_, raw::Error>| reading.map_err(|e| column_refusal(&e));
     (0..calls).map(|_| decoder.next().map(refusal)).collect()
 }
 

@@ -1,7 +1,7 @@
 //! What a caller of the crate has to keep away from; the records leave these out.
 
 use oracle::numbers::write_u64;
-use oracle::{boolean, delta, rle, table, TOO_MANY};
+use oracle::{boolean, delta, rle, table, text, TOO_MANY};
 use std::panic::catch_unwind;
 
 #[test]
@@ -30,6 +30,16 @@ fn behind_a_fault_the_decoder_goes_on() {
     assert_eq!(
         rle::answers(&[0x7e, 5], 4),
         [five, Some(Err(21)), None, None]
+    );
+}
+
+#[test]
+fn behind_a_bad_name_the_decoder_reads_on_from_it() {
+    // two names of which the first is not UTF-8: the fault for each, and then the first one's length as a run's count
+    let column = [0x7e, 1, 0xff, 1, 0x61];
+    assert_eq!(
+        text::answers(&column, 3),
+        [Some(Err(20)), Some(Err(20)), Some(Err(1))]
     );
 }
 

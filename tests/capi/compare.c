@@ -120,6 +120,7 @@ int main(void) {
     specifications();
     columns();
     cursors();
+    texts();
     tables();
     edits();
     printf("capi: %d calls compared, %d differences\n", calls, differences);

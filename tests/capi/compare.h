@@ -58,6 +58,7 @@ void numbers(void);
 void specifications(void);
 void columns(void);
 void cursors(void);
+void texts(void);
 void tables(void);
 void edits(void);
 

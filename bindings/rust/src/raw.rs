@@ -180,6 +180,40 @@ extern "C" {
     pub fn grundavok_boolean_maybe_encoded_len(values: *const u8, values_len: usize) -> Counted;
     pub fn grundavok_boolean_maybe_encode(values: *const u8, values_len: usize, out: *mut u8, out_len: usize) -> Counted;
 
+    pub fn grundavok_text_count(s: *const u8, s_len: usize) -> Counted;
+    pub fn grundavok_text_decode(
+        s: *const u8,
+        s_len: usize,
+        starts: *mut u64,
+        starts_len: usize,
+        lens: *mut u64,
+        lens_len: usize,
+        present: *mut u8,
+        present_len: usize,
+    ) -> Counted;
+    pub fn grundavok_text_encoded_len(
+        bytes: *const u8,
+        bytes_len: usize,
+        starts: *const u64,
+        starts_len: usize,
+        lens: *const u64,
+        lens_len: usize,
+        present: *const u8,
+        present_len: usize,
+    ) -> Counted;
+    pub fn grundavok_text_encode(
+        bytes: *const u8,
+        bytes_len: usize,
+        starts: *const u64,
+        starts_len: usize,
+        lens: *const u64,
+        lens_len: usize,
+        present: *const u8,
+        present_len: usize,
+        out: *mut u8,
+        out_len: usize,
+    ) -> Counted;
+
     pub fn grundavok_read_table(block: *const u8, block_len: usize) -> Opened;
     pub fn grundavok_locate(block: *const u8, block_len: usize, position: usize) -> Part;
     pub fn grundavok_locate_spec(block: *const u8, block_len: usize, spec: u32) -> Part;
@@ -273,6 +307,51 @@ extern "C" {
         new_values_len: usize,
         values: *mut u8,
         values_len: usize,
+        out: *mut u8,
+        out_len: usize,
+    ) -> Spliced;
+    pub fn grundavok_splice_text(
+        block: *const u8,
+        block_len: usize,
+        position: usize,
+        start: usize,
+        end: usize,
+        bytes: *const u8,
+        bytes_len: usize,
+        new_starts: *const u64,
+        new_starts_len: usize,
+        new_lens: *const u64,
+        new_lens_len: usize,
+        new_present: *const u8,
+        new_present_len: usize,
+        starts: *mut u64,
+        starts_len: usize,
+        lens: *mut u64,
+        lens_len: usize,
+        present: *mut u8,
+        present_len: usize,
+        out: *mut u8,
+        out_len: usize,
+    ) -> Spliced;
+    pub fn grundavok_splice_text_to_end(
+        block: *const u8,
+        block_len: usize,
+        position: usize,
+        start: usize,
+        bytes: *const u8,
+        bytes_len: usize,
+        new_starts: *const u64,
+        new_starts_len: usize,
+        new_lens: *const u64,
+        new_lens_len: usize,
+        new_present: *const u8,
+        new_present_len: usize,
+        starts: *mut u64,
+        starts_len: usize,
+        lens: *mut u64,
+        lens_len: usize,
+        present: *mut u8,
+        present_len: usize,
         out: *mut u8,
         out_len: usize,
     ) -> Spliced;

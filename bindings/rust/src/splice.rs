@@ -5,7 +5,10 @@
 //! Refusals, in this order: those of `read_table`; 16; 17; 18 for an end below the start; the column's first fault; 18 for a start or an end
 //! beyond the list; 5 for the result; 9 for more readings than that; 7 (delta alone).
 
+use std::ops::Range;
+
 use crate::raw_column::{column, rows, Row};
+use crate::text::{self, Given, Slots};
 use crate::{boolean, delta, judged, lists, raw, raw_call, rle, Refusal};
 
 /// The new block, its rows, and the column's new list.
@@ -27,7 +30,7 @@ fn lengths(old: Result<usize, Refusal>, start: usize, end: usize, new: usize) ->
     (old, start + new + old.saturating_sub(end.max(start)))
 }
 
-/// With no output every edit is refused: with 10 where nothing else is wrong, and the slots then hold the new list.
+/// With no output every edit is refused: with 10 where nothing else is wrong, and the slots then hold the new list, but for names.
 fn until_10(r: raw::Spliced) -> Result<(), Refusal> {
     if r.number == 10 {
         return Ok(());
@@ -99,3 +102,49 @@ macro_rules! boolean_splice {
 
 boolean_splice!(splice_boolean, grundavok_splice_boolean, (end), end);
 boolean_splice!(splice_boolean_to_end, grundavok_splice_boolean_to_end, (), usize::MAX);
+
+/// Of names the list is where each stands in the new block, as one that repeats is there once.
+impl Spliced<Option<Range<usize>>> {
+    /// The names themselves. It panics where block or list were changed so that there is no text at a place.
+    pub fn names(&self) -> Vec<Option<&str>> {
+        text::named(&self.block, self.list.iter().cloned())
+    }
+}
+
+/// An edit of names that is refused with 10 leaves the slots as they were, so the size is asked of the list as it will be.
+macro_rules! text_splice {
+    ($name:ident, $call:ident, ($($end:ident)?), $till:expr) => {
+        pub fn $name(
+            block: &[u8],
+            position: usize,
+            start: usize,
+            $($end: usize,)?
+            new: &[Option<&str>],
+            most: usize,
+        ) -> Result<Spliced<Option<Range<usize>>>, Refusal> {
+            let (old, len) = lengths(column(block, position).and_then(text::count), start, $till, new.len());
+            let Given { bytes, slots: given } = Given::new(new);
+            let mut slots = Slots::new(old.max(len).min(most));
+            let mut edit = |out: &mut [u8]| {
+                raw_call!(
+                    $call,
+                    [block],
+                    (position, start $(, $end)?),
+                    [bytes, given.starts, given.lens, given.present],
+                    [slots.starts, slots.lens, slots.present, out]
+                )
+            };
+            until_10(edit(&mut []))?;
+            let mut list = text::names(column(block, position)?, most)?;
+            list.splice(start..old.min($till), new.iter().copied());
+            let mut out = vec![0; block.len() + text::encoded_len(&list)? + TABLE_GROWTH];
+            let r = edit(&mut out);
+            let at = raw_call!(grundavok_locate, [out[..r.len]], (position), [], []).start;
+            let places = slots.places().take(len).map(|place| place.map(|place| at + place.start..at + place.end));
+            ended(r, out, places.collect())
+        }
+    };
+}
+
+text_splice!(splice_text, grundavok_splice_text, (end), end);
+text_splice!(splice_text_to_end, grundavok_splice_text_to_end, (), usize::MAX);

@@ -12,18 +12,23 @@ fn calls() {
 mod calls {
     use grundavok::column_specification::{ColumnSpec, ColumnType};
     use grundavok::raw_column::{Frame, Row};
-    use grundavok::{boolean, delta, leb128, raw_column, rle, splice, Refusal};
+    use grundavok::{boolean, delta, leb128, raw_column, rle, splice, text, Refusal};
 
     const DEPTHS: [u8; 8] = [0x01, 0x13, 0x05, 0x7f, 0xd0, 0x00, 0x02, 0x00];
     const TWO: [u8; 9] = [0x02, 0x12, 0x02, 0x13, 0x02, 0x02, 0x05, 0x7f, 0x05];
 
+    /// An absent name, "é" twice, "ab", "" and "b"; and a String column of "ab" twice and "c" before a Boolean column of no, no.
+    const NAMES: [u8; 13] = [0x00, 0x01, 0x02, 0x02, 0xc3, 0xa9, 0x7d, 0x02, 0x61, 0x62, 0x00, 0x01, 0x62];
+    const SIGNS: [u8; 13] = [0x02, 0x15, 0x07, 0x24, 0x01, 0x02, 0x02, 0x61, 0x62, 0x7f, 0x01, 0x63, 0x02];
+
     /// The most readings that these tests hold.
     const MOST: usize = 8;
 
-    /// 4,294,967,295 readings of 5; so many absent ones; so many of no.
+    /// 4,294,967,295 readings of 5; so many absent ones; so many of no; so many empty names.
     const FIVES: [u8; 6] = [0xff, 0xff, 0xff, 0xff, 0x0f, 0x05];
     const GAP: [u8; 6] = [0x00, 0xff, 0xff, 0xff, 0xff, 0x0f];
     const FLAGS: [u8; 5] = [0xff, 0xff, 0xff, 0xff, 0x0f];
+    const EMPTY: [u8; 6] = [0xff, 0xff, 0xff, 0xff, 0x0f, 0x00];
 
     fn refused<T>(number: u8, place: usize) -> Result<T, Refusal> {
         Err(Refusal { number, place })
@@ -87,6 +92,59 @@ mod calls {
     }
 
     #[test]
+    fn names() {
+        let list = [None, Some("é"), Some("é"), Some("ab"), Some(""), Some("b")];
+        let owned: Vec<Option<String>> = list.iter().map(|name| name.map(str::to_owned)).collect();
+        assert_eq!((text::count(&NAMES), text::decode(&NAMES, MOST)), (Ok(6), Ok(owned)));
+        assert_eq!(text::names(&NAMES, MOST), Ok(list.to_vec()));
+        assert_eq!((text::encoded_len(&list), text::encode(&list)), (Ok(13), Ok(NAMES.to_vec())));
+        assert_eq!(text::decode(&NAMES, 5), refused(9, 0));
+        assert_eq!(text::count(&[0x7f, 0x02, 0xff]), refused(1, 1));
+        assert_eq!(text::decode(&[0x7e, 0x01, 0xff, 0x01], MOST), refused(20, 1));
+        assert_eq!(text::decode(&[0x02], MOST), refused(21, 1));
+        assert_eq!(text::decode(&[0x7f, 0x00], MOST), Ok(vec![Some(String::new())]));
+        assert_eq!(text::decode(&[], MOST), Ok(vec![]));
+        assert_eq!((text::encode(&[None, None]), text::encode(&[])), (Ok(vec![]), Ok(vec![])));
+        assert_eq!(text::encode(&[None, Some("")]), Ok(vec![0x00, 0x01, 0x7f, 0x00]));
+        assert_eq!(
+            text::encode(&[Some("a"), None, Some("a")]),
+            Ok(vec![0x7f, 0x01, 0x61, 0x00, 0x01, 0x7f, 0x01, 0x61])
+        );
+    }
+
+    #[test]
+    fn edits_of_names() {
+        let edit = splice::splice_text(&SIGNS, 0, 1, 2, &[Some("déjà"), None], MOST).unwrap();
+        assert_eq!(edit.names(), [Some("ab"), Some("déjà"), None, Some("c")]);
+        assert_eq!(
+            text::names(raw_column::column(&edit.block, 0).unwrap(), MOST).unwrap(),
+            edit.names()
+        );
+        assert_eq!((edit.rows[0].len, edit.rows[1].start, edit.block.last()), (16, 16, Some(&0x02)));
+        let same = splice::splice_text(&SIGNS, 0, 3, 3, &[Some("c"), Some("c")], MOST).unwrap();
+        assert_eq!(
+            same.block,
+            [0x02, 0x15, 0x07, 0x24, 0x01, 0x02, 0x02, 0x61, 0x62, 0x03, 0x01, 0x63, 0x02]
+        );
+        assert_eq!(same.list, [Some(7..9), Some(7..9), Some(11..12), Some(11..12), Some(11..12)]);
+        let absent = splice::splice_text_to_end(&SIGNS, 0, 0, &[None, None], MOST).unwrap();
+        assert_eq!(
+            (absent.block, absent.list),
+            (vec![0x02, 0x15, 0x00, 0x24, 0x01, 0x02], vec![None, None])
+        );
+        let emptied = splice::splice_text_to_end(&SIGNS, 0, 1, &[], MOST).unwrap();
+        assert_eq!((emptied.rows[0].len, emptied.names()), (4, vec![Some("ab")]));
+        assert_eq!(splice::splice_text(&SIGNS, 0, 0, 4, &[], MOST), refused(18, 0));
+        assert_eq!(splice::splice_text(&SIGNS, 1, 0, 1, &[], MOST), refused(17, 0));
+        assert_eq!(splice::splice_text(&SIGNS, 0, 0, 0, &[None; 5], MOST).unwrap().list.len(), 8);
+        assert_eq!(splice::splice_text(&SIGNS, 0, 0, 0, &[None; 6], MOST), refused(9, 0));
+        assert_eq!(
+            splice::splice_text_to_end(&[0x01, 0x15, 0x02, 0x7f, 0x01], 0, 0, &[], MOST),
+            refused(1, 1)
+        );
+    }
+
+    #[test]
     fn readings() {
         let mut optional = rle::readings(&[0x00, 0x01, 0x02, 0x05]);
         assert_eq!(whole(optional.by_ref()), Ok(vec![None, Some(5), Some(5)]));
@@ -127,6 +185,10 @@ mod calls {
         assert_eq!(rle::decode(&[0x09, 0x05, 0x02], MOST), refused(21, 3));
         assert_eq!(delta::decode(&GAP, MOST), refused(9, 0));
         assert_eq!(boolean::decode(&FLAGS, MOST), refused(9, 0));
+        assert_eq!(
+            (text::count(&EMPTY), text::decode(&EMPTY, MOST)),
+            (Ok(4_294_967_295), refused(9, 0))
+        );
         assert_eq!(rle::readings(&FIVES).take(1_000).filter(|r| *r == Ok(Some(5))).count(), 1_000);
         assert_eq!(delta::readings(&GAP).take(1_000).filter(|r| *r == Ok(None)).count(), 1_000);
         let integers = [&[0x01, 0x12, 0x06][..], &FIVES].concat();

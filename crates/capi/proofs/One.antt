@@ -6,11 +6,14 @@ use mathlib.Core.List.{List, map}
 use mathlib.Core.Option.{Option}
 use lib.ListN.{length}
 use Rattle.leb128.specs.Answer.{Answer, within, left}
+use Rattle.encoding.specs.Column.{Reading}
 use Rattle.encoding.specs.Given.{sized, Encoded}
-use Rattle.encoding.specs.Slots.{decoding, Decoded}
+use Rattle.encoding.specs.Slots.{flagOf, decoding, Decoded}
 use Rattle.encoding.specs.Walk.{Trace, outcome}
 use Rattle.boolean_decoder.specs.Decoded.{Decoded as DecodedFlags}
-use Rattle.splice.specs.Contract.{optionalEdit, OptionalSpliced, booleanEdit, BooleanSpliced}
+use Rattle.text.specs.Name.{startOf, lengthOf}
+use Rattle.text_decoder.specs.Slots.{decodingNames, DecodedNames}
+use Rattle.splice.specs.Contract.{optionalEdit, OptionalSpliced, booleanEdit, BooleanSpliced, textEdit, TextSpliced}
 use Rattle.splice.specs.Edit.{answered}
 use Rattle.splice.specs.Kind.{Kind}
 use Rattle.splice.specs.declared.End.{End}
@@ -46,6 +49,23 @@ module _ {t : Trace ℕ} {v v′ : List ℕ} {r : Counted} where
   pub booleans-values : Told (DecodedFlags t v v′) r → v′ ≡ left (within 9 (length v) (outcome t)) (t .readings) v
   booleans-values d = d .holds .values ∙ ap (λ (o : Answer). left o (t .readings) v) (d .holds .answer)
 
+-- decoding a column of names: the answer and the three slices
+module _ {t : Trace (Reading (List ℕ))} {a a′ l l′ p p′ : List ℕ} {r : Counted} where
+  pub names-answer : Told (DecodedNames t a a′ l l′ p p′) r → r ≡ counted (decodingNames t (length a) (length l) (length p))
+  names-answer = told-one (decodingNames t (length a) (length l) (length p)) (λ o d. d .answer)
+
+  pub names-starts : Told (DecodedNames t a a′ l l′ p p′) r
+      → a′ ≡ left (decodingNames t (length a) (length l) (length p)) (map startOf (t .readings)) a
+  names-starts d = d .holds .starts ∙ ap (λ (o : Answer). left o (map startOf (t .readings)) a) (d .holds .answer)
+
+  pub names-lens : Told (DecodedNames t a a′ l l′ p p′) r
+      → l′ ≡ left (decodingNames t (length a) (length l) (length p)) (map lengthOf (t .readings)) l
+  names-lens d = d .holds .lens ∙ ap (λ (o : Answer). left o (map lengthOf (t .readings)) l) (d .holds .answer)
+
+  pub names-flags : Told (DecodedNames t a a′ l l′ p p′) r
+      → p′ ≡ left (decodingNames t (length a) (length l) (length p)) (map flagOf (t .readings)) p
+  names-flags d = d .holds .flags ∙ ap (λ (o : Answer). left o (map flagOf (t .readings)) p) (d .holds .answer)
+
 -- encoding a list
 module _ {bytes : List ℕ} {judged : Answer} {out out′ : List ℕ} {r : Counted} where
   pub encoded-answer : Told (Encoded bytes judged out out′) r → r ≡ counted (within 10 (length out) (sized bytes judged))
@@ -54,7 +74,7 @@ module _ {bytes : List ℕ} {judged : Answer} {out out′ : List ℕ} {r : Count
   pub encoded-output : Told (Encoded bytes judged out out′) r → out′ ≡ left (within 10 (length out) (sized bytes judged)) bytes out
   encoded-output e = e .holds .output ∙ ap (λ (o : Answer). left o bytes out) (e .holds .answer)
 
--- an edit: its slices are fixed by the edit alone (`OptionalSpliced`, `BooleanSpliced`), and its answer is
+-- an edit: its slices are fixed by the edit alone (`OptionalSpliced`, `BooleanSpliced`, `TextSpliced`), and its answer is
 pub optional-answer : {A : Type 0} {K : Kind (Option A)} {nought : A} {s : List ℕ} {position start : ℕ} {end : End} {new : List A} {flags : List ℕ}
     {v v′ : List A} {p p′ out out′ : List ℕ} {r : Spliced}
     → ToldEdit (OptionalSpliced K nought s position start end new flags v v′ p p′ out out′) r
@@ -67,3 +87,12 @@ pub boolean-answer : {K : Kind ℕ} {s : List ℕ} {position start : ℕ} {end :
     → r ≡ splicedAs (answered (booleanEdit K s position start end new (length v) (length out)))
 boolean-answer {K} {s} {position} {start} {end} {new} {v} {v′} {out} =
     edit-one (answered (booleanEdit K s position start end new (length v) (length out))) (λ o e. e .answer)
+
+pub text-answer : {K : Kind (Option (List ℕ))} {s : List ℕ} {position start : ℕ} {end : End} {bytes new-starts new-lens new-flags : List ℕ}
+    {a a′ l l′ p p′ out out′ : List ℕ} {r : Spliced}
+    → ToldEdit (TextSpliced K s position start end bytes new-starts new-lens new-flags a a′ l l′ p p′ out out′) r
+    → r ≡ splicedAs (answered (textEdit K s position start end bytes new-starts new-lens new-flags (length a) (length l) (length p) (length out)))
+text-answer {K} {s} {position} {start} {end} {bytes} {new-starts} {new-lens} {new-flags} {a} {a′} {l} {l′} {p} {p′} {out} =
+    edit-one
+    (answered (textEdit K s position start end bytes new-starts new-lens new-flags (length a) (length l) (length p) (length out)))
+    (λ o e. e .answer)

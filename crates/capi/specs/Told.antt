@@ -1,5 +1,6 @@
 -- What the library promises of its own answer, passed on: the boundary's answer is the form of one of which that promise holds. The promises
--- cited so (`Decoded`, `Encoded`, `OptionalSpliced`, `BooleanSpliced`) fix their answer by an equation, so no second answer fits here either.
+-- cited so (`Decoded`, `DecodedNames`, `Encoded`, `OptionalSpliced`, `BooleanSpliced`, `TextSpliced`) fix their answer by an equation, so no second
+-- answer fits here either.
 use mathlib.Core.Path.{_≡_}
 use Rattle.leb128.specs.Answer.{Answer}
 use Rattle.splice.specs.declared.Spliced.{Spliced as Edit}

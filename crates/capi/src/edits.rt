@@ -3,8 +3,8 @@ ghost use mathlib.Core.Path.{_≡_};
 ghost use lib.IntN.{pos};
 ghost use lib.ListN.{length};
 ghost use Rattle.slots.specs.Splice.{spliceAnswer, splicedSlots};
-ghost use Rattle.splice.specs.Contract.{OptionalSpliced, BooleanSpliced};
-ghost use Rattle.splice.specs.Kinds.{integer, delta, boolean};
+ghost use Rattle.splice.specs.Contract.{OptionalSpliced, BooleanSpliced, TextSpliced};
+ghost use Rattle.splice.specs.Kinds.{integer, delta, boolean, text};
 ghost use Rattle.capi.specs.Cases.{counted};
 ghost use Rattle.capi.specs.Told.{ToldEdit};
 use crate::Counted;
@@ -88,6 +88,41 @@ pub extern "C" fn grundavok_splice_boolean(
         End::At(end),
         new_values,
         values,
+        out,
+    ))
+}
+
+#[no_mangle]
+pub extern "C" fn grundavok_splice_text(
+    block: &[u8],
+    position: usize,
+    start: usize,
+    end: usize,
+    bytes: &[u8],
+    new_starts: &[u64],
+    new_lens: &[u64],
+    new_present: &[u8],
+    starts: &mut [u64],
+    lens: &mut [u64],
+    present: &mut [u8],
+    out: &mut [u8],
+) -> Spliced
+    ensures { λ r. ⌜ ToldEdit (TextSpliced text (now (block .entry)) position start (End.At end) (now (bytes .entry)) (now («new_starts» .entry))
+        (now («new_lens» .entry)) (now («new_present» .entry)) (now (starts .entry)) (now (starts .exit)) (now (lens .entry)) (now (lens .exit))
+        (now (present .entry)) (now (present .exit)) (now (out .entry)) (now (out .exit))) r ⌝ }
+{
+    answers::spliced(text_encoder::range::splice_text(
+        block,
+        position,
+        start,
+        End::At(end),
+        bytes,
+        new_starts,
+        new_lens,
+        new_present,
+        starts,
+        lens,
+        present,
         out,
     ))
 }

@@ -1,7 +1,7 @@
 // Edits that take all readings of a column from a start on.
 ghost use lib.IntN.{pos};
-ghost use Rattle.splice.specs.Contract.{OptionalSpliced, BooleanSpliced};
-ghost use Rattle.splice.specs.Kinds.{integer, delta, boolean};
+ghost use Rattle.splice.specs.Contract.{OptionalSpliced, BooleanSpliced, TextSpliced};
+ghost use Rattle.splice.specs.Kinds.{integer, delta, boolean, text};
 ghost use Rattle.capi.specs.Told.{ToldEdit};
 use crate::Spliced;
 use crate::answers;
@@ -80,6 +80,40 @@ pub extern "C" fn grundavok_splice_boolean_to_end(
         End::OfList,
         new_values,
         values,
+        out,
+    ))
+}
+
+#[no_mangle]
+pub extern "C" fn grundavok_splice_text_to_end(
+    block: &[u8],
+    position: usize,
+    start: usize,
+    bytes: &[u8],
+    new_starts: &[u64],
+    new_lens: &[u64],
+    new_present: &[u8],
+    starts: &mut [u64],
+    lens: &mut [u64],
+    present: &mut [u8],
+    out: &mut [u8],
+) -> Spliced
+    ensures { λ r. ⌜ ToldEdit (TextSpliced text (now (block .entry)) position start End.OfList (now (bytes .entry)) (now («new_starts» .entry))
+        (now («new_lens» .entry)) (now («new_present» .entry)) (now (starts .entry)) (now (starts .exit)) (now (lens .entry)) (now (lens .exit))
+        (now (present .entry)) (now (present .exit)) (now (out .entry)) (now (out .exit))) r ⌝ }
+{
+    answers::spliced(text_encoder::range::splice_text(
+        block,
+        position,
+        start,
+        End::OfList,
+        bytes,
+        new_starts,
+        new_lens,
+        new_present,
+        starts,
+        lens,
+        present,
         out,
     ))
 }

@@ -8,6 +8,7 @@ mod edits_to_end;
 mod numbers;
 mod specifications;
 mod tables;
+mod texts;
 
 // A number that was read and the position behind it; or a refusal. In every answer `number` is 0 where the call was accepted and else the
 // refusal's, `place` is the refusal's, and the other values of a refusal are 0.

@@ -12,8 +12,8 @@ use lib.Dec.{ltb}
 use lib.ListN.{length, take, getD}
 use lib.Seq.{take-suc, take-all}
 use Rattle.io.specs.Digits.{glyph, digits}
-use Rattle.replay.specs.declared.text.Hex.{Hex}
-use Rattle.replay.specs.declared.text.Hex.the-variants.{Value}
+use Rattle.replay.specs.declared.words.Hex.{Hex}
+use Rattle.replay.specs.declared.words.Hex.the-variants.{Value}
 use Rattle.replay.specs.Text.{Digit, Behind, Longer, Spells}
 
 -- a digit is one of `0` to `9`, or one of `a` to `f`

@@ -4,8 +4,8 @@ use mathlib.Core.Path.{_≡_}
 use mathlib.Core.List.{List}
 use lib.ListN.{length}
 use Rattle.io.specs.Digits.{glyph, digits}
-use Rattle.replay.specs.declared.text.Hex.{Hex}
-use Rattle.replay.specs.declared.text.Hex.the-variants.{Value, Bad}
+use Rattle.replay.specs.declared.words.Hex.{Hex}
+use Rattle.replay.specs.declared.words.Hex.the-variants.{Value, Bad}
 
 -- d is the value of the digit b, or 16 where b is none
 pub record Digit (b d : ℕ) : Type 0 where

@@ -6,7 +6,7 @@ use crate::fields::Cursor;
 use crate::fields::Verdict;
 use crate::lists;
 use crate::rooms;
-use crate::text;
+use crate::words;
 use splice::Spliced;
 
 // With little room, and where the line is then no record, with much.
@@ -56,8 +56,8 @@ fn run_in(
         line,
         rest,
         aim,
-        text::between(block, 0, n),
-        text::between(new, 0, k),
+        words::between(block, 0, n),
+        words::between(new, 0, k),
         values,
         out,
     )

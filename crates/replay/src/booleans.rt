@@ -4,7 +4,7 @@ use crate::fields;
 use crate::fields::Cursor;
 use crate::fields::Verdict;
 use crate::lists;
-use crate::text;
+use crate::words;
 use encoding::Answer;
 
 // The form that is written: always, or nothing where all is false.
@@ -54,7 +54,7 @@ fn count(line: &[u8], c: Cursor, bytes: &mut [u8]) -> Verdict {
     columns::judged(
         line,
         rest,
-        boolean_decoder::count(text::between(bytes, 0, n)),
+        boolean_decoder::count(words::between(bytes, 0, n)),
     )
 }
 
@@ -68,7 +68,7 @@ fn decode(line: &[u8], c: Cursor, values: &mut [u8], bytes: &mut [u8]) -> Verdic
     }
     let n = s.value as usize;
     let k = v.value as usize;
-    decode_in(line, rest, text::between(bytes, 0, n), values, k)
+    decode_in(line, rest, words::between(bytes, 0, n), values, k)
 }
 
 // Decodes into the first k slots, which there are.
@@ -93,7 +93,7 @@ fn encoded_len(form: Form, line: &[u8], c: Cursor, values: &mut [u8]) -> Verdict
         return Verdict::Malformed;
     }
     let k = v.value as usize;
-    columns::judged(line, rest, len_of(form, text::between(values, 0, k)))
+    columns::judged(line, rest, len_of(form, words::between(values, 0, k)))
 }
 
 fn len_of(form: Form, values: &[u8]) -> Answer {
@@ -124,7 +124,7 @@ fn encode(
         form,
         line,
         rest,
-        text::between(values, 0, k),
+        words::between(values, 0, k),
         out,
         n,
         recorded,

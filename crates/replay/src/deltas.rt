@@ -4,7 +4,7 @@ use crate::fields;
 use crate::fields::Cursor;
 use crate::fields::Verdict;
 use crate::lists;
-use crate::text;
+use crate::words;
 use encoding::Answer;
 
 // The family's calls by name.
@@ -40,7 +40,11 @@ fn count(line: &[u8], c: Cursor, bytes: &mut [u8]) -> Verdict {
         return Verdict::Malformed;
     }
     let n = s.value as usize;
-    columns::judged(line, rest, delta_decoder::count(text::between(bytes, 0, n)))
+    columns::judged(
+        line,
+        rest,
+        delta_decoder::count(words::between(bytes, 0, n)),
+    )
 }
 
 // BYTES VALUES PRESENT = NUMBER PLACE COUNT VALUES-AFTER PRESENT-AFTER
@@ -64,7 +68,7 @@ fn decode(
     decode_in(
         line,
         rest,
-        text::between(bytes, 0, n),
+        words::between(bytes, 0, n),
         values,
         k,
         present,
@@ -110,7 +114,7 @@ fn encoded_len(line: &[u8], c: Cursor, values: &mut [i64], present: &mut [u8]) -
     let m = p.value as usize;
     let answer = delta_encoder::encoded_len(
         lists::front_i64(values, k),
-        text::between(present, 0, m),
+        words::between(present, 0, m),
     );
     columns::judged(line, rest, answer)
 }
@@ -139,7 +143,7 @@ fn encode(
         line,
         rest,
         given,
-        text::between(present, 0, m),
+        words::between(present, 0, m),
         out,
         n,
         recorded,

@@ -1,4 +1,4 @@
-// The calls of the crates rle_range, delta_range and boolean_range, and what they share.
+// The calls of the crates rle_range, delta_range and boolean_range and the edit of text_encoder, and what they share.
 use crate::boolean_edits;
 use crate::delta_edits;
 use crate::fields;
@@ -6,6 +6,7 @@ use crate::fields::Cursor;
 use crate::fields::Taken;
 use crate::fields::Verdict;
 use crate::integer_edits;
+use crate::name_edits;
 use crate::rooms;
 use crate::tables;
 use splice::End;
@@ -21,6 +22,9 @@ pub fn run(name: &[u8], line: &[u8], c: Cursor) -> Verdict {
     }
     if check::same(name, b"splice_boolean") {
         return boolean_edits::run(line, c);
+    }
+    if check::same(name, b"splice_text") {
+        return name_edits::run(line, c);
     }
     Verdict::Unknown
 }

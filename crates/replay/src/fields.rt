@@ -1,12 +1,12 @@
 // The fields of a record, taken as inputs or held to answers one after the other. docs/RECORDS.md has the form.
-use crate::text::Filled;
-use crate::text::Hex;
-use crate::text::after;
-use crate::text::between;
-use crate::text::fill;
-use crate::text::find;
-use crate::text::is_sign;
-use crate::text::number;
+use crate::words::Filled;
+use crate::words::Hex;
+use crate::words::after;
+use crate::words::between;
+use crate::words::fill;
+use crate::words::find;
+use crate::words::is_sign;
+use crate::words::number;
 
 // Where a line is read, and what is known of it so far.
 pub struct Cursor {

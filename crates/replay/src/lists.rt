@@ -4,9 +4,9 @@ use crate::fields;
 use crate::fields::Cursor;
 use crate::fields::Taken;
 use crate::signed;
-use crate::text;
-use crate::text::Filled;
-use crate::text::Hex;
+use crate::words;
+use crate::words::Filled;
+use crate::words::Hex;
 
 // How many numbers a list has at most.
 const MOST: u64 = 20000;
@@ -32,12 +32,12 @@ fn counted(count: Hex, value: Hex) -> Share {
 
 // NUMBER or COUNT*NUMBER.
 fn part(s: &[u8]) -> Share {
-    let star = text::find(s, 0, b'*');
+    let star = words::find(s, 0, b'*');
     if star == s.len() {
-        return counted(Hex::Value(1), text::number(s));
+        return counted(Hex::Value(1), words::number(s));
     }
-    let count = text::number(text::between(s, 0, star));
-    let value = text::number(text::between(s, text::after(star), s.len()));
+    let count = words::number(words::between(s, 0, star));
+    let value = words::number(words::between(s, words::after(star), s.len()));
     counted(count, value)
 }
 
@@ -57,15 +57,15 @@ fn with_part(n: u64, p: Share) -> Hex {
 
 // How many numbers a field has: `-`, or parts with `,` between two.
 fn size(s: &[u8]) -> Hex {
-    if text::is_sign(s, b'-') {
+    if words::is_sign(s, b'-') {
         return Hex::Value(0);
     }
     let mut n = 0;
     let mut at = 0;
     let mut turns = s.len();
     while turns > 0 {
-        let end = text::find(s, at, b',');
-        match with_part(n, part(text::between(s, at, end))) {
+        let end = words::find(s, at, b',');
+        match with_part(n, part(words::between(s, at, end))) {
             Hex::Value(more) => {
                 n = more;
             }
@@ -76,7 +76,7 @@ fn size(s: &[u8]) -> Hex {
         if end == s.len() {
             return Hex::Value(n);
         }
-        at = text::after(end);
+        at = words::after(end);
         turns -= 1;
     }
     Hex::Bad
@@ -104,12 +104,12 @@ fn next(s: &[u8], mut r: Row) -> Row {
         return r;
     }
     let at = r.at;
-    let end = text::find(s, at, b',');
-    match part(text::between(s, at, end)) {
+    let end = words::find(s, at, b',');
+    match part(words::between(s, at, end)) {
         Share::Times(n, value) => Row {
             value,
             left: if 0 < n { n - 1 } else { 0 },
-            at: text::after(end),
+            at: words::after(end),
         },
         Share::Bad => r,
     }
@@ -137,7 +137,7 @@ fn put_i64(s: &[u8], out: &mut [i64]) {
     }
 }
 
-fn narrow(n: u64) -> u8 {
+pub fn narrow(n: u64) -> u8 {
     (n % 256) as u8
 }
 
@@ -339,7 +339,7 @@ pub fn expect_u64(line: &[u8], c: Cursor, answer: &[u64]) -> Cursor {
         show_u64(answer);
         return c;
     }
-    if text::is_sign(fields::field(line, c), b'*') {
+    if words::is_sign(fields::field(line, c), b'*') {
         return fields::next(line, c);
     }
     let rest = compare_size(line, c, answer.len());
@@ -352,7 +352,7 @@ pub fn expect_i64(line: &[u8], c: Cursor, answer: &[i64]) -> Cursor {
         show_i64(answer);
         return c;
     }
-    if text::is_sign(fields::field(line, c), b'*') {
+    if words::is_sign(fields::field(line, c), b'*') {
         return fields::next(line, c);
     }
     let rest = compare_size(line, c, answer.len());
@@ -365,7 +365,7 @@ pub fn expect_u8(line: &[u8], c: Cursor, answer: &[u8]) -> Cursor {
         show_u8(answer);
         return c;
     }
-    if text::is_sign(fields::field(line, c), b'*') {
+    if words::is_sign(fields::field(line, c), b'*') {
         return fields::next(line, c);
     }
     let rest = compare_size(line, c, answer.len());

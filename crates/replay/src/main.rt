@@ -12,14 +12,16 @@ mod fields;
 mod integer_edits;
 mod integers;
 mod lists;
+mod name_edits;
+mod names;
 mod numbers;
 mod rooms;
 mod signed;
 mod specifications;
 mod states;
 mod tables;
-mod text;
 mod walks;
+mod words;
 
 use fields::Cursor;
 use fields::Verdict;
@@ -63,6 +65,10 @@ fn run(name: &[u8], line: &[u8], c: Cursor) -> Verdict {
     if is_known(v) {
         return v;
     }
+    let v = names::run(name, line, c);
+    if is_known(v) {
+        return v;
+    }
     let v = columns::run(name, line, c);
     if is_known(v) {
         return v;
@@ -72,9 +78,9 @@ fn run(name: &[u8], line: &[u8], c: Cursor) -> Verdict {
 
 // Runs the call of a line, and compares its answers or, where `shown`, writes them.
 fn run_line(line: &[u8], shown: bool) -> Verdict {
-    let end = text::find(line, 0, b' ');
-    let c = fields::start(text::after(end), shown);
-    run(text::between(line, 0, end), line, c)
+    let end = words::find(line, 0, b' ');
+    let c = fields::start(words::after(end), shown);
+    run(words::between(line, 0, end), line, c)
 }
 
 fn say_place(path: &[u8], lines: u64) {
@@ -177,7 +183,7 @@ fn gathered(room: &mut [u8], b: u8, mut t: Tally) -> Tally {
 
 fn byte_came(path: &[u8], room: &mut [u8], b: u8, t: Tally) -> Tally {
     if b == b'\n' {
-        return line_over(path, text::between(room, 0, t.len), t);
+        return line_over(path, words::between(room, 0, t.len), t);
     }
     gathered(room, b, t)
 }
@@ -250,7 +256,7 @@ fn last_line(path: &[u8], room: &[u8], t: Tally) -> Tally {
     if t.len == 0 {
         return t;
     }
-    line_over(path, text::between(room, 0, t.len), t)
+    line_over(path, words::between(room, 0, t.len), t)
 }
 
 fn say_counts(name: &[u8], records: u64, differ: u64) {

@@ -4,7 +4,7 @@ use crate::fields::Cursor;
 use crate::fields::Taken;
 use crate::fields::Verdict;
 use crate::signed;
-use crate::text;
+use crate::words;
 use leb128::ParsedI64;
 use leb128::ParsedU32;
 use leb128::ParsedU64;
@@ -69,7 +69,13 @@ fn read(r: Reader, line: &[u8], c: Cursor) -> Verdict {
         return Verdict::Malformed;
     }
     let n = s.value as usize;
-    read_at(r, text::between(&space, 0, n), a.value as usize, line, rest)
+    read_at(
+        r,
+        words::between(&space, 0, n),
+        a.value as usize,
+        line,
+        rest,
+    )
 }
 
 fn read_at(r: Reader, s: &[u8], at: usize, line: &[u8], c: Cursor) -> Verdict {
@@ -140,7 +146,7 @@ fn write(w: Writer, line: &[u8], c: Cursor) -> Verdict {
     }
     let n = o.value as usize;
     let answer = write_in(w, v.value, &mut out, n, a.value as usize);
-    written(answer, text::between(&out, 0, n), line, rest)
+    written(answer, words::between(&out, 0, n), line, rest)
 }
 
 fn position(w: Writer, line: &[u8], c: Cursor) -> Taken {

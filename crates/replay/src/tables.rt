@@ -4,7 +4,7 @@ use crate::fields;
 use crate::fields::Cursor;
 use crate::fields::Verdict;
 use crate::lists;
-use crate::text;
+use crate::words;
 use block_frame::Frame;
 use column_part::Part;
 use raw_column::Opened;
@@ -39,7 +39,7 @@ fn read_table(line: &[u8], c: Cursor) -> Verdict {
     opened(
         line,
         rest,
-        raw_column::read_table(text::between(&block, 0, n)),
+        raw_column::read_table(words::between(&block, 0, n)),
     )
 }
 
@@ -114,7 +114,7 @@ fn column(line: &[u8], c: Cursor) -> Verdict {
         return Verdict::Malformed;
     }
     let n = b.value as usize;
-    column_in(line, rest, text::between(&block, 0, n), p.value as usize)
+    column_in(line, rest, words::between(&block, 0, n), p.value as usize)
 }
 
 fn column_in(line: &[u8], c: Cursor, block: &[u8], position: usize) -> Verdict {
@@ -132,7 +132,7 @@ fn bytes_for(line: &[u8], c: Cursor) -> Verdict {
         return Verdict::Malformed;
     }
     let n = b.value as usize;
-    bytes_in(line, rest, text::between(&block, 0, n), narrowed(s.value))
+    bytes_in(line, rest, words::between(&block, 0, n), narrowed(s.value))
 }
 
 // The low 32 bits: a number that was taken as at most 2^32-1 as it stands.
@@ -169,7 +169,7 @@ fn put_frame(line: &[u8], c: Cursor) -> Verdict {
     put_frame_in(
         line,
         rest,
-        text::between(&block, 0, n),
+        words::between(&block, 0, n),
         p.value as usize,
         s.value as usize,
         &mut out,

@@ -8,7 +8,7 @@ use crate::states;
 use crate::states::Kind;
 use crate::states::State;
 use crate::states::Stepped;
-use crate::text;
+use crate::words;
 
 // The family's calls by name.
 pub fn run(
@@ -42,7 +42,7 @@ fn walk(
 ) -> Verdict {
     let b = fields::take_bytes(line, c, bytes);
     let n = b.value as usize;
-    let column = text::between(bytes, 0, n);
+    let column = words::between(bytes, 0, n);
     let s = take_state(kind, line, b.rest, column);
     let k = fields::take_number(line, s.rest, values.len() as u64);
     let rest = k.rest;
@@ -196,7 +196,7 @@ fn judged(
     let at_count = fields::expect_refusal(line, c, d.number, d.place);
     let at_values = fields::expect_number(line, at_count, n as u64);
     let at_present = lists::expect_u64(line, at_values, lists::front_u64(values, n));
-    let at_times = lists::expect_u8(line, at_present, text::between(present, 0, n));
+    let at_times = lists::expect_u8(line, at_present, words::between(present, 0, n));
     let at_state = fields::expect_number(line, at_times, d.times);
     fields::judged(line, expect_state(kind, line, at_state, state))
 }

@@ -1,7 +1,7 @@
 -- An edit of a boolean column: its slots and its new list, where it is ready, and how it begins. Assumes nothing.
 use Prim.Native.Nat.{ℕ, _+_, _-_}
 use mathlib.Core.Path.{_≡_, refl, sym, ap, _∙_, subst}
-use mathlib.Core.List.{List, [], _∷_, _++_, map}
+use mathlib.Core.List.{List, _++_}
 use mathlib.Core.Option.{Option, none, some}
 use mathlib.Core.Bool.{true}
 use native.Mathlib.Omega.{arith}
@@ -26,10 +26,6 @@ use Rattle.splice.proofs.Planning.{sound-is, plan-stops, plan-ready, in
 use Rattle.splice.proofs.Replacing.{splice-fits, in-loaded}
 use Rattle.splice.proofs.Editing.{newList, new-length, edit-answer, edit-output, edit-slots}
 use Rattle.splice.proofs.Counting.{boolean-counts}
-
-map-itself : (xs : List ℕ) → map itself xs ≡ xs
-map-itself [] = refl
-map-itself (x ∷ xs) = ap (λ (l : List ℕ). x ∷ l) (map-itself xs)
 
 given-clean : (new : List ℕ) {g : ℕ} → givenBoolean new ≡ done g → Clean new
 unfolding givenBoolean
@@ -90,7 +86,7 @@ module _ {s : List ℕ} {position start : ℕ} {end : End} {at till old len : �
           let F′ = subst (λ (x : List ℕ). Finished boolean s position x out out′ r) front F in
           record {
             answer = edit-answer boolean new refl R given F′;
-            values = edit-slots boolean new refl R given F′ 0 itself v (holds ∙ ap (inSlots 0 v old) (sym (map-itself xs)));
+            values = edit-slots boolean new refl R given F′ 0 itself v refl holds;
             output = edit-output boolean new refl R given F′;
           }
 

@@ -8,8 +8,9 @@ use Rattle.encoding.specs.Walk.{Trace, outcomeOf, outcome}
 use Rattle.rle_decoder.specs.Word.{u64E}
 use Rattle.delta_decoder.specs.Sums.{deltaTrace}
 use Rattle.boolean_decoder.specs.Turns.{boolTrace}
+use Rattle.text.specs.Text.{textE}
 use Rattle.splice.specs.Kind.{values}
-use Rattle.splice.specs.Kinds.{integer, delta, boolean}
+use Rattle.splice.specs.Kinds.{integer, delta, boolean, text}
 use Rattle.splice.specs.Steps.{countAs}
 use Rattle.splice.specs.declared.ColumnKind.{ColumnKind}
 use Rattle.splice.specs.declared.ColumnKind.the-variants as kind
@@ -28,6 +29,10 @@ module _ (c : List ℕ) {k : ColumnKind} where
   unfolding countAs
   count-boolean e = rw e
 
+  pub count-text : k ≡ kind.Text → outcome (trace textE c) ≡ countAs k c
+  unfolding countAs
+  count-text e = rw e
+
 -- and of the kinds that edits are given
 pub values-outcome : {A : Type 0} (t : Trace (Reading A)) → outcome (values t) ≡ outcome t
 unfolding outcome
@@ -41,3 +46,6 @@ delta-counts c = sym (count-delta c refl) ∙ sym (values-outcome (deltaTrace c)
 
 pub boolean-counts : (c : List ℕ) → countAs (boolean .kind) c ≡ outcome (boolean .reads c)
 boolean-counts c = sym (count-boolean c refl)
+
+pub text-counts : (c : List ℕ) → countAs (text .kind) c ≡ outcome (text .reads c)
+text-counts c = sym (count-text c refl) ∙ sym (values-outcome (trace textE c))

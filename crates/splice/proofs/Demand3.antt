@@ -3,7 +3,7 @@
 -- of the code is (`Lent`): `integer-demand-3`, `delta-demand-3` and `boolean-demand-3`, proved once over the kind of column. Assumes nothing.
 use Prim.Native.Nat.{ℕ, _≤_, _<_}
 use mathlib.Core.Path.{_≡_, refl, sym, ap, _∙_}
-use mathlib.Core.List.{List, []}
+use mathlib.Core.List.{List, [], map}
 use mathlib.Core.Option.{Option, some}
 use native.Mathlib.Omega.{arith}
 use lib.IntN.{ℤ, pos}
@@ -21,17 +21,18 @@ use Rattle.column_part.specs.Part.{startOf, partAt, bytesOf}
 use Rattle.block_frame.specs.Columns.{blockBytes, newBlock}
 use Rattle.block_frame.proofs.Blocks.{columnsOf, columns-are, column-is-part}
 use Rattle.slots.specs.Splice.{spliced}
+use Rattle.text.specs.Given.{nameList}
 use Rattle.splice.specs.Kind.{Kind}
-use Rattle.splice.specs.Kinds.{integer, delta, boolean}
-use Rattle.splice.specs.Edit.{Edited, stop, late, accepted, endIn, givenOptional, givenBoolean, editIn, edited}
+use Rattle.splice.specs.Kinds.{integer, delta, boolean, text}
+use Rattle.splice.specs.Edit.{Edited, stop, late, accepted, endIn, givenOptional, givenBoolean, givenText, editIn, edited}
 use Rattle.splice.specs.Edit.{acceptance, answered, slotsLeft, outLeft}
-use Rattle.splice.specs.Contract.{slotIn, flagIn, itself, OptionalSpliced, BooleanSpliced}
+use Rattle.splice.specs.Contract.{slotIn, flagIn, itself, startsIn, lengthIn, OptionalSpliced, BooleanSpliced, TextSpliced}
 use Rattle.splice.specs.Lent.{Lent}
 use Rattle.splice.specs.declared.Spliced.{Spliced}
 use Rattle.splice.specs.declared.End.{End}
 use Rattle.splice.proofs.Isolated.{Alike, both-stop, both-late, both-accepted, alike, alike-answer, alike-slots, OnlyElsewhere}
 use Rattle.splice.proofs.Isolated.{accepted-right, Kept, accepted-kept}
-use Rattle.splice.proofs.Numbered.{SomeStop, SomeRefused, optional-some, boolean-some, integer-numbered, edited-some}
+use Rattle.splice.proofs.Numbered.{SomeStop, SomeRefused, optional-some, boolean-some, text-some, integer-numbered, text-numbered, edited-some}
 
 -- ---- what the demand speaks of
 
@@ -264,8 +265,8 @@ pub optional-demand-3 : {A : Type 0} (K : Kind (Option A)) → ((c : List ℕ) �
 optional-demand-3 {A} K numbered nought s position start end new flags v v′ p p′ out out′ r =
     demand K numbered position start end (slotList new flags)
     (λ z. givenOptional (length (z .0)) (length (z .1)) (length new) flags) (λ z. optional-some (length (z .0)) (length (z .1)) (length new) flags)
-    (λ z. length (z .0)) (λ z e. (slotsLeft nought (slotIn nought) e (z .0), slotsLeft 0 flagIn e (z .1)))
-    (λ s s₂ specs lens e e₂ z k. pair (alike-slots nought (slotIn nought) (z .0) k) (alike-slots 0 flagIn (z .1) k))
+    (λ z. length (z .0)) (λ z e. (slotsLeft nought (map (slotIn nought)) e (z .0), slotsLeft 0 (map flagIn) e (z .1)))
+    (λ s s₂ specs lens e e₂ z k. pair (alike-slots nought (map (slotIn nought)) (z .0) k) (alike-slots 0 (map flagIn) (z .1) k))
     (OptionalCall K nought position start end new flags)
     (λ s z z′ out out′ r c. record { answer = c .answer; slots-are = pair (c .values) (c .presence); output = c .output })
     s (v, p) (v′, p′) out out′ r
@@ -298,3 +299,29 @@ boolean-demand-3 s position start end new v v′ out out′ r =
     (BooleanCall boolean position start end new)
     (λ s z z′ out out′ r c. record { answer = c .answer; slots-are = c .values; output = c .output })
     s v v′ out out′ r
+
+-- ---- names: the slots are three slices
+
+abbrev pub TextCall : ℕ → ℕ → End → List ℕ → List ℕ → List ℕ → List ℕ
+    → List ℕ → (List ℕ × List ℕ × List ℕ) → (List ℕ × List ℕ × List ℕ) → List ℕ → List ℕ → Spliced → Type 0
+TextCall position start end bytes newStarts newLens newFlags s slots slots′ out out′ r =
+    TextSpliced text s position start end bytes newStarts newLens newFlags
+    (slots .0) (slots′ .0) (slots .1) (slots′ .1) (slots .2) (slots′ .2) out out′ r
+
+pub text-demand-3 : (s : List ℕ) (position start : ℕ) (end : End) (bytes newStarts newLens newFlags a a′ l l′ p p′ out out′ : List ℕ) (r : Spliced)
+    → Lent s → Lent out → TextSpliced text s position start end bytes newStarts newLens newFlags a a′ l l′ p p′ out out′ r
+    → DemandThree text position start end (nameList bytes newStarts newLens newFlags) (TextCall position start end bytes newStarts newLens newFlags)
+    s (a, l, p) (a′, l′, p′) out out′ r
+text-demand-3 s position start end bytes newStarts newLens newFlags a a′ l l′ p p′ out out′ r =
+    demand text text-numbered position start end (nameList bytes newStarts newLens newFlags)
+    (λ z. givenText (length (z .0)) (length (z .1)) (length (z .2)) bytes newStarts newLens newFlags)
+    (λ z. text-some (length (z .0)) (length (z .1)) (length (z .2)) bytes newStarts newLens newFlags)
+    (λ z. length (z .0))
+    (λ z e. (slotsLeft 0 startsIn e (z .0), slotsLeft 0 (map lengthIn) e (z .1), slotsLeft 0 (map flagIn) e (z .2)))
+    (λ s s₂ specs lens e e₂ z k. three (alike-slots 0 startsIn (z .0) k) (alike-slots 0 (map lengthIn) (z .1) k) (alike-slots 0 (map flagIn) (z .2) k))
+    (TextCall position start end bytes newStarts newLens newFlags)
+    (λ s z z′ out out′ r c. record { answer = c .answer; slots-are = three (c .starts) (c .lens) (c .presence); output = c .output })
+    s (a, l, p) (a′, l′, p′) out out′ r
+  where
+    three : {x x₂ y y₂ w w₂ : List ℕ} → x ≡ x₂ → y ≡ y₂ → w ≡ w₂ → _≡_ {A = List ℕ × List ℕ × List ℕ} (x, y, w) (x₂, y₂, w₂)
+    three e f g = cc

@@ -1,7 +1,7 @@
 -- An edit that is ready, over the kind of column: its meaning, and what its slots, output and answer come to. Assumes nothing.
 use Prim.Native.Nat.{ℕ, _+_, _-_, _≤_, max}
 use mathlib.Core.Path.{_≡_, refl, sym, ap, _∙_}
-use mathlib.Core.List.{List, map}
+use mathlib.Core.List.{List}
 use mathlib.Core.Option.{Option, none, some}
 use mathlib.Core.Bool.{Bool, true, false, cond}
 use native.Mathlib.Omega.{arith}
@@ -15,37 +15,39 @@ use Rattle.column_part.specs.Part.{startOf}
 use Rattle.slots.specs.Splice.{spliced, inSlots}
 use Rattle.slots.proofs.Splicing.{length-spliced}
 use Rattle.splice.specs.Kind.{Kind}
-use Rattle.splice.specs.Edit.{Edited, late, accepted, endIn, finished, edited, answered, slotsLeft, outLeft}
+use Rattle.splice.specs.Edit.{Edited, accepted, endIn, refuses, finished, edited, answered, slotsLeft, outLeft}
 use Rattle.splice.specs.declared.End.{End}
 use Rattle.splice.specs.Ready.{Ready, finishedAt, Finished}
 use Rattle.splice.specs.declared.Spliced.{Spliced}
 use Rattle.splice.proofs.Planning.{sound-is, in-order}
+use Rattle.splice.proofs.Refusing.{refuses-answer, refuses-out, refuses-slots}
 
 -- ---- the end of an edit does not depend on the old list's length, but for the slots
 module _ {A : Type 0} (K : Kind A) (xs : List A) (room : ℕ) (block : List ℕ → List ℕ) where
   same-answer : (n m : ℕ) (w : Option ℕ) → answered (finished K n xs room block w) ≡ answered (finished K m xs room block w)
-  same-answer n m (some i) = refl
+  same-answer n m (some i) = refuses-answer K 7 i n xs ∙ sym (refuses-answer K 7 i m xs)
   same-answer n m none = go (leb (length (block (K .writes xs))) room)
     where
-      go : (b : Bool) → answered (cond b (accepted n xs (block (K .writes xs))) (late 10 0 n xs)) ≡ answered (cond b (accepted m xs (block (K .writes xs))) (late 10 0 m xs))
+      go : (b : Bool) → answered (cond b (accepted n xs (block (K .writes xs))) (refuses K 10 0 n xs)) ≡ answered (cond b (accepted m xs (block (K .writes xs))) (refuses K 10 0 m xs))
       go true = refl
-      go false = refl
+      go false = refuses-answer K 10 0 n xs ∙ sym (refuses-answer K 10 0 m xs)
 
   same-out : (n m : ℕ) (w : Option ℕ) (out : List ℕ) → outLeft (finished K n xs room block w) out ≡ outLeft (finished K m xs room block w) out
-  same-out n m (some i) out = refl
+  same-out n m (some i) out = refuses-out K 7 i n xs out ∙ sym (refuses-out K 7 i m xs out)
   same-out n m none out = go (leb (length (block (K .writes xs))) room)
     where
-      go : (b : Bool) → outLeft (cond b (accepted n xs (block (K .writes xs))) (late 10 0 n xs)) out ≡ outLeft (cond b (accepted m xs (block (K .writes xs))) (late 10 0 m xs)) out
+      go : (b : Bool) → outLeft (cond b (accepted n xs (block (K .writes xs))) (refuses K 10 0 n xs)) out ≡ outLeft (cond b (accepted m xs (block (K .writes xs))) (refuses K 10 0 m xs)) out
       go true = refl
-      go false = refl
+      go false = refuses-out K 10 0 n xs out ∙ sym (refuses-out K 10 0 m xs out)
 
-  slots-are : {B : Type 0} (z : B) (f : A → B) (n : ℕ) (w : Option ℕ) (slots : List B) → slotsLeft z f (finished K n xs room block w) slots ≡ inSlots z slots n (map f xs)
-  slots-are z f n (some i) slots = refl
-  slots-are z f n none slots = go (leb (length (block (K .writes xs))) room)
+  slots-are : {B : Type 0} (z : B) (f : List A → List B) (n : ℕ) (w : Option ℕ) (slots : List B) → K .keeps ≡ false
+      → slotsLeft z f (finished K n xs room block w) slots ≡ inSlots z slots n (f xs)
+  slots-are z f n (some i) slots h = refuses-slots K 7 i n xs z f slots h
+  slots-are z f n none slots h = go (leb (length (block (K .writes xs))) room)
     where
-      go : (b : Bool) → slotsLeft z f (cond b (accepted n xs (block (K .writes xs))) (late 10 0 n xs)) slots ≡ inSlots z slots n (map f xs)
+      go : (b : Bool) → slotsLeft z f (cond b (accepted n xs (block (K .writes xs))) (refuses K 10 0 n xs)) slots ≡ inSlots z slots n (f xs)
       go true = refl
-      go false = refl
+      go false = refuses-slots K 10 0 n xs z f slots h
 
 -- ---- its meaning
 module _ {A : Type 0} (K : Kind A) {s : List ℕ} {position start : ℕ} {end : End} {n slots at till old len : ℕ} (new : List A) (many : n ≡ length new)
@@ -111,8 +113,8 @@ module _ {A : Type 0} (K : Kind A) {s : List ℕ} {position start : ℕ} {end : 
         ∙ same-out K newList (length out) (newBlock s (R .located .row .specs) (R .located .row .lens) (R .located .row .next) position) 0 old (K .wide newList) out
         ∙ ap (λ (e : Edited A). outLeft e out) (sym (ready-edit (length out) q))
 
-    pub edit-slots : {B : Type 0} (z : B) (f : A → B) (v : List B) {v′ : List B} → v′ ≡ inSlots z v old (map f newList)
+    pub edit-slots : {B : Type 0} (z : B) (f : List A → List B) (v : List B) {v′ : List B} → K .keeps ≡ false → v′ ≡ inSlots z v old (f newList)
         → v′ ≡ slotsLeft z f (edited K s position start end given new slots (length out)) v
-    edit-slots z f v e =
-        e ∙ sym (slots-are K newList (length out) (newBlock s (R .located .row .specs) (R .located .row .lens) (R .located .row .next) position) z f old (K .wide newList) v)
+    edit-slots z f v h e =
+        e ∙ sym (slots-are K newList (length out) (newBlock s (R .located .row .specs) (R .located .row .lens) (R .located .row .next) position) z f old (K .wide newList) v h)
         ∙ ap (λ (x : Edited A). slotsLeft z f x v) (sym (ready-edit (length out) q))

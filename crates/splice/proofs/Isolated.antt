@@ -24,10 +24,11 @@ use Rattle.block_frame.proofs.Cutting.{cut-at}
 use Rattle.block_frame.proofs.Tables.{Below, table-fills, table-back}
 use Rattle.slots.specs.Splice.{spliced}
 use Rattle.splice.specs.Kind.{Kind}
-use Rattle.splice.specs.Edit.{Edited, stop, late, accepted, endIn, below, serves, finished, editList, readBy, editColumn, editIn, edited}
+use Rattle.splice.specs.Edit.{Edited, stop, late, accepted, endIn, below, serves, refuses, finished, editList, readBy, editColumn, editIn, edited}
 use Rattle.splice.specs.Edit.{answered, slotsLeft}
 use Rattle.splice.specs.declared.End.{End}
 use Rattle.splice.proofs.Planning.{in-order}
+use Rattle.splice.proofs.Refusing.{refuses-by}
 
 -- the column at a position, as an edit takes it
 abbrev columnAt : List ℕ → List ℕ → ℕ → ℕ → List ℕ
@@ -46,6 +47,10 @@ alike-if : {A : Type 0} {K : Kind A} {s s′ specs lens : List ℕ} {position : 
     → Alike K s s′ specs lens position (cond t x y) (cond t x′ y′)
 alike-if true f g = f refl
 alike-if false f g = g refl
+
+refuses-alike : {A : Type 0} {K : Kind A} {s s′ specs lens : List ℕ} {position : ℕ} (number place old : ℕ) (xs : List A)
+    → Alike K s s′ specs lens position (refuses K number place old xs) (refuses K number place old xs)
+refuses-alike {K = K} number place old xs = alike-if (K .keeps) (λ e. both-stop number place) (λ e. both-late number place old xs)
 
 -- two blocks of one sound table that agree on the column at a position
 module _ {A : Type 0} (K : Kind A) (s s′ specs lens : List ℕ) (next position : ℕ) (short : length s < 2 ^ 64)
@@ -93,14 +98,14 @@ module _ {A : Type 0} (K : Kind A) (s s′ specs lens : List ℕ) (next position
     finished-alike : (old : ℕ) (xs : List A) (w : Option ℕ)
         → Alike K s s′ specs lens position
         (finished K old xs room (newBlock s specs lens next position) w) (finished K old xs room (newBlock s′ specs lens next position) w)
-    finished-alike old xs (some i) = both-late 7 i old xs
+    finished-alike old xs (some i) = refuses-alike 7 i old xs
     finished-alike old xs none =
         let c = K .writes xs in
         rw (← same-size c)
         (alike-if (leb (length (newBlock s specs lens next position c)) room)
         (λ e. both-accepted old xs _ _ (columns-agree (λ x. c) s s′ specs lens next position short sound sound′ row same-columns
         (omega (arith, leb-true (length (newBlock s specs lens next position c)) room e, column-within c))))
-        (λ e. both-late 10 0 old xs))
+        (λ e. refuses-alike 10 0 old xs))
 
     read-alike : (o : Answer) (old : List A) (start : ℕ) (end : End) (new : List A) (slots : ℕ)
         → Alike K s s′ specs lens position
@@ -182,7 +187,10 @@ module _ {A : Type 0} (K : Kind A) (s specs lens : List ℕ) (next position star
       go : let n = length (K .reads (columnAt s lens next position) .readings) in start ≤ endIn end n → endIn end n ≤ n → (w : Option ℕ)
           → let old = K .reads (columnAt s lens next position) .readings in let xs = spliced old start (endIn end (length old)) new in
           RightIn (finished K (length old) xs room (newBlock s specs lens next position) w)
-      go a b (some i) = tt
+      go a b (some i) =
+          let old = K .reads (columnAt s lens next position) .readings in
+          let xs = spliced old start (endIn end (length old)) new in
+          refuses-by K 7 i (length old) xs RightIn tt tt
       go a b none =
           let old = K .reads (columnAt s lens next position) .readings in
           let xs = spliced old start (endIn end (length old)) new in
@@ -197,7 +205,7 @@ module _ {A : Type 0} (K : Kind A) (s specs lens : List ℕ) (next position star
             served = row;
             fits = leb-true (length (newBlock s specs lens next position (K .writes xs))) room h;
           })
-          (λ h. tt)
+          (λ h. refuses-by K 10 0 (length old) xs RightIn tt tt)
 
   right-column : (slots : ℕ) (given : Answer) → position < length specs → below start end ≡ false
       → RightIn (editColumn K (columnAt s lens next position) start end given new slots room (newBlock s specs lens next position))
@@ -271,7 +279,7 @@ alike-answer (both-accepted old xs block block′ a) =
     ∙ ap (λ (n : ℕ). record { table = opened (parse block′) .table; number = 0; place = 0; len = n }) (a .size)
 
 -- and leave the same in the same slots
-pub alike-slots : {A B : Type 0} {K : Kind A} {s s′ specs lens : List ℕ} {position : ℕ} {e e′ : Edited A} (z : B) (f : A → B) (v : List B)
+pub alike-slots : {A B : Type 0} {K : Kind A} {s s′ specs lens : List ℕ} {position : ℕ} {e e′ : Edited A} (z : B) (f : List A → List B) (v : List B)
     → Alike K s s′ specs lens position e e′ → slotsLeft z f e v ≡ slotsLeft z f e′ v
 alike-slots z f v (both-stop number place) = refl
 alike-slots z f v (both-late number place old xs) = refl

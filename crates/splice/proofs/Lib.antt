@@ -7,5 +7,6 @@ pub mod Isolated
 pub mod Numbered
 pub mod OptionalEdits
 pub mod Planning
+pub mod Refusing
 pub mod Replacing
 pub mod Writing

@@ -15,14 +15,18 @@ use Rattle.encoding.specs.Given.{badFlag}
 use Rattle.encoding.proofs.Faults.{Numbered, trace-numbered}
 use Rattle.encoding.proofs.Lists.{cond-by}
 use Rattle.rle_decoder.specs.Word.{u64E}
+use Rattle.text.specs.Text.{textE}
+use Rattle.text.specs.Given.{nameList, badPair, badText, textGiven, pairsGiven, namesGiven}
+use Rattle.text.proofs.Faults.{text-fault}
 use Rattle.raw_column.specs.Table.{Tab, tab, faulty, parse}
 use Rattle.raw_column.proofs.Opening.{parse-ok}
 use Rattle.slots.specs.Splice.{spliced}
 use Rattle.splice.specs.Kind.{Kind}
-use Rattle.splice.specs.Kinds.{integer}
-use Rattle.splice.specs.Edit.{Edited, stop, late, accepted, endIn, below, serves, flagsIn, givenOptional, givenBoolean}
+use Rattle.splice.specs.Kinds.{integer, text}
+use Rattle.splice.specs.Edit.{Edited, stop, late, accepted, endIn, below, serves, flagsIn, givenOptional, givenBoolean, givenText}
 use Rattle.splice.specs.Edit.{finished, editList, readBy, editColumn, editIn, edited}
 use Rattle.splice.specs.declared.End.{End}
+use Rattle.splice.proofs.Refusing.{refuses-by}
 
 abbrev pub SomeStop : {A : Type 0} → Edited A → Type 0
 SomeStop (stop number place) = 0 < number
@@ -46,9 +50,30 @@ pub boolean-some : (new : List ℕ) → SomeRefused (givenBoolean new)
 unfolding givenBoolean
 boolean-some new = flags-some (badFlag 0 new)
 
+names-some : (bad : Option ℕ) → SomeRefused (textGiven bad)
+names-some none = tt
+names-some (some i) = omega arith
+
+pairs-some : (bad : Option ℕ) (text : Answer) → SomeRefused text → SomeRefused (pairsGiven bad text)
+pairs-some none text h = h
+pairs-some (some i) text h = omega arith
+
+pub text-some : (starts lens flags : ℕ) (bytes newStarts newLens newFlags : List ℕ)
+    → SomeRefused (givenText starts lens flags bytes newStarts newLens newFlags)
+unfolding givenText namesGiven
+text-some starts lens flags bytes newStarts newLens newFlags =
+    cond-by SomeRefused (eqb starts lens && eqb lens flags)
+    (λ h. cond-by SomeRefused (eqb (length newStarts) (length newLens) && eqb (length newLens) (length newFlags))
+    (λ h. pairs-some (badPair (length bytes) 0 newStarts newLens newFlags) _ (names-some (badText 0 (nameList bytes newStarts newLens newFlags))))
+    (λ h. omega arith))
+    (λ h. omega arith)
+
 -- ---- a column's faults have theirs (`delta-numbered`, `boolean-numbered` for the other kinds), and so has every way out of an edit
 pub integer-numbered : (c : List ℕ) → Numbered (integer .reads c .ending)
 integer-numbered c = trace-numbered u64E c (u64-fault c)
+
+pub text-numbered : (c : List ℕ) → Numbered (text .reads c .ending)
+text-numbered c = trace-numbered textE c (text-fault c)
 
 module _ {A : Type 0} (K : Kind A) (numbered : (c : List ℕ) → Numbered (K .reads c .ending)) (start : ℕ) (end : End) (new : List A)
     (slots room : ℕ) where
@@ -61,8 +86,9 @@ module _ {A : Type 0} (K : Kind A) (numbered : (c : List ℕ) → Numbered (K .r
       (λ h. cond-by SomeStop (ltb slots _) (λ h. omega arith) (λ h. go xs (K .wide xs)))))
     where
       go : (xs : List A) (w : Option ℕ) → SomeStop (finished K (length old) xs room block w)
-      go xs (some i) = omega arith
-      go xs none = cond-by SomeStop (leb (length (block (K .writes xs))) room) (λ h. tt) (λ h. omega arith)
+      go xs (some i) = refuses-by K 7 i (length old) xs SomeStop (omega arith) (omega arith)
+      go xs none =
+          cond-by SomeStop (leb (length (block (K .writes xs))) room) (λ h. tt) (λ h. refuses-by K 10 0 (length old) xs SomeStop (omega arith) (omega arith))
 
   column-some : (column : List ℕ) (given : Answer) (block : List ℕ → List ℕ) → SomeRefused given
       → SomeStop (editColumn K column start end given new slots room block)

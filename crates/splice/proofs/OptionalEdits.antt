@@ -130,17 +130,17 @@ module _ {A : Type 0} (K : Kind (Option A)) (T : List ℕ → Trace (Reading A))
               few = omega (arith, ap length a, length-map xs (slotIn z), new-length K (slotList new flags) many R, R .few);
             }
 
-        pub optional-done : {out out′ : List ℕ} {r : Spliced} → Finished K s position (slotList (take len v₂) (take len p₂)) out out′ r
+        pub optional-done : {out out′ : List ℕ} {r : Spliced} → K .keeps ≡ false → Finished K s position (slotList (take len v₂) (take len p₂)) out out′ r
             → OptionalSpliced K z s position start end new flags v v₂ p p₂ out out′ r
-        optional-done {out} {out′} {r} F =
+        optional-done {out} {out′} {r} loads F =
             let a = front z (slotIn z) v values-hold in
             let b = front 0 flagIn p flags-hold in
             let l : slotList (take len v₂) (take len p₂) ≡ xs = ap (λ (x : List A). slotList x (take len p₂)) a ∙ ap (slotList (map (slotIn z) xs)) b ∙ back z xs in
             let F′ = subst (λ (x : List (Option A)). Finished K s position x out out′ r) l F in
             record {
               answer = edit-answer K (slotList new flags) many R given F′;
-              values = edit-slots K (slotList new flags) many R given F′ z (slotIn z) v values-hold;
-              presence = edit-slots K (slotList new flags) many R given F′ 0 flagIn p flags-hold;
+              values = edit-slots K (slotList new flags) many R given F′ z (map (slotIn z)) v loads values-hold;
+              presence = edit-slots K (slotList new flags) many R given F′ 0 (map flagIn) p loads flags-hold;
               output = edit-output K (slotList new flags) many R given F′;
             }
 
@@ -159,8 +159,8 @@ module _ {A : Type 0} (K : Kind (Option A)) (z : A) (s : List ℕ) (position sta
       let q = plan-stops K counts s position start end G (slotList new flags) (length new) readings (length v) (length out) e in
       record {
         answer = a ∙ ap answered (sym q);
-        values = ap (λ (x : Edited (Option A)). slotsLeft z (slotIn z) x v) (sym q);
-        presence = ap (λ (x : Edited (Option A)). slotsLeft 0 flagIn x p) (sym q);
+        values = ap (λ (x : Edited (Option A)). slotsLeft z (map (slotIn z)) x v) (sym q);
+        presence = ap (λ (x : Edited (Option A)). slotsLeft 0 (map flagIn) x p) (sym q);
         output = ap (λ (x : Edited (Option A)). outLeft x out) (sym q);
       }
 

@@ -26,8 +26,9 @@ use Rattle.raw_column.proofs.Opening.{ParseOk, parse-ok, sum-to}
 use Rattle.block_frame.proofs.Tables.{table-fills}
 use Rattle.slots.specs.Splice.{spliced}
 use Rattle.slots.proofs.Splicing.{length-spliced}
+use Rattle.text.specs.Given.{namesGiven}
 use Rattle.splice.specs.Kind.{Kind}
-use Rattle.splice.specs.Edit.{Edited, stop, endIn, below, serves, flagsIn, givenOptional, finished, editList, readBy, editColumn, editIn, edited}
+use Rattle.splice.specs.Edit.{Edited, stop, endIn, below, serves, flagsIn, givenOptional, givenText, finished, editList, readBy, editColumn, editIn, edited}
 use Rattle.splice.specs.Steps.{rowIn, rowFor, countAs, resultLength, resultJudged, Plan, ready, stopped, onResult, onCount, onGiven, onRow, planFor}
 use Rattle.splice.specs.Ready.{Located, Ready}
 use Rattle.splice.specs.declared.Row.{Row}
@@ -54,6 +55,10 @@ module _ (k : ColumnKind) (spec : ℕ) {t : ℕ} (e : t ≡ typeOf spec) where
   pub serves-boolean : k ≡ kind.Boolean → eqb t 4 ≡ serves k spec
   unfolding serves
   serves-boolean h = rw (h, ← e)
+
+  pub serves-text : k ≡ kind.Text → eqb t 5 ≡ serves k spec
+  unfolding serves
+  serves-text h = rw (h, ← e)
 
 -- ---- the row, by the part that was located
 module _ (kind : ColumnKind) (s : List ℕ) (position start : ℕ) (end : End) where
@@ -158,6 +163,23 @@ module _ (values present new : ℕ) (flags : List ℕ) where
   pub given-bad : {number place : ℕ} → values ≡ present → listJudged new flags ≡ refused number place → (number ≡ 5 → ⊥)
       → refused number place ≡ givenOptional values present new flags
   given-bad {number} {place} h e f = sym (ap (λ (t : Bool). cond t (done 0) (refused number place)) (ne-eqb number 5 f)) ∙ judged-as h e
+
+-- ---- the new names
+module _ (starts lens flags : ℕ) (bytes newStarts newLens newFlags : List ℕ) where
+  abbrev textAs : Answer
+  textAs = givenText starts lens flags bytes newStarts newLens newFlags
+
+  pub text-uneven : (starts ≡ lens → ⊥) → refused 8 0 ≡ textAs
+  unfolding givenText
+  text-uneven h = rw (ne-eqb starts lens h)
+
+  pub text-unflagged : starts ≡ lens → (lens ≡ flags → ⊥) → refused 8 0 ≡ textAs
+  unfolding givenText
+  text-unflagged h k = simp (eq-eqb starts lens h, ne-eqb lens flags k)
+
+  pub text-given : starts ≡ lens → lens ≡ flags → namesGiven bytes newStarts newLens newFlags ≡ textAs
+  unfolding givenText
+  text-given h k = simp (eq-eqb starts lens h, eq-eqb lens flags k)
 
 -- ---- the result
 -- a range that does not end below its start is ordered in any list that it starts in

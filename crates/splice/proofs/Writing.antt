@@ -24,7 +24,8 @@ use Rattle.block_frame.specs.Frame.{Framed, shut, room, frontOf, tailOf, framed
 use Rattle.block_frame.specs.declared.Frame.{Frame}
 use Rattle.block_frame.proofs.Blocks.{others-kept, frame-given, frame-refused, frame-is-block, frame-filled}
 use Rattle.splice.specs.Kind.{Kind}
-use Rattle.splice.specs.Edit.{Edited, late, accepted, finished, refusal, acceptance, blockIn, blockAnswer, answered, outLeft}
+use Rattle.splice.specs.Edit.{Edited, accepted, refuses, finished, refusal, acceptance, blockIn, blockAnswer, answered, outLeft}
+use Rattle.splice.proofs.Refusing.{refuses-answer, refuses-out}
 use Rattle.splice.specs.Ready.{HasRow, Good, putBehind, finishedAt, Finished}
 use Rattle.splice.specs.declared.Spliced.{Spliced}
 
@@ -108,7 +109,8 @@ module _ {A : Type 0} (K : Kind A) {s : List ℕ} {position : ℕ} (g : HasRow s
   by {E} e a o = record { answer = a ∙ ap answered (sym e); output = o ∙ ap (λ (z : Edited A). outLeft z out) (sym e) }
 
   pub finish-wide : {i : ℕ} {r : Spliced} → K .wide xs ≡ some i → r ≡ refusal 7 i → Finished K s position xs out out r
-  finish-wide e a = by (at-row ∙ ap (finished K 0 xs (length out) blockOf) e) a refl
+  finish-wide {i} e a =
+      by (at-row ∙ ap (finished K 0 xs (length out) blockOf) e) (a ∙ sym (refuses-answer K 7 i 0 xs)) (sym (refuses-out K 7 i 0 xs out))
 
   pub finish-refused : (m : ℕ) {number place : ℕ} {r : Spliced} → sized W (judgedAs m (K .wide xs)) ≡ refused number place → r ≡ refusal number place
       → Finished K s position xs out out r
@@ -116,7 +118,7 @@ module _ {A : Type 0} (K : Kind A) {s : List ℕ} {position : ℕ} (g : HasRow s
 
   module _ (narrow : K .wide xs ≡ none) {size : ℕ} (sizes : size ≡ length W) {f : Frame} {mid : List ℕ}
       (frame : f ≡ frameOf size (framed s position size (length out))) (made : mid ≡ frameOut size (framed s position size (length out)) out) where
-    ends : finishedAt K s position xs (length out) ≡ cond (leb (length (blockOf W)) (length out)) (accepted 0 xs (blockOf W)) (late 10 0 0 xs)
+    ends : finishedAt K s position xs (length out) ≡ cond (leb (length (blockOf W)) (length out)) (accepted 0 xs (blockOf W)) (refuses K 10 0 0 xs)
     ends = at-row ∙ ap (finished K 0 xs (length out) blockOf) narrow
 
     abbrev head : List ℕ
@@ -141,8 +143,9 @@ module _ {A : Type 0} (K : Kind A) {s : List ℕ} {position : ℕ} (g : HasRow s
         go false e =
             let q = shut-10 (leb-false (length (blockOf W)) (length out) e) in
             let z : f ≡ frameOf size (shut 10 0) = frame ∙ ap (frameOf size) q in
-            by (ends ∙ ap (λ (b : Bool). cond b (accepted 0 xs (blockOf W)) (late 10 0 0 xs)) e)
-            (a ∙ ap (λ (y : Frame). refusal (y .number) (y .place)) z) (made ∙ ap (λ (y : Framed). frameOut size y out) q)
+            by (ends ∙ ap (λ (b : Bool). cond b (accepted 0 xs (blockOf W)) (refuses K 10 0 0 xs)) e)
+            (a ∙ ap (λ (y : Frame). refusal (y .number) (y .place)) z ∙ sym (refuses-answer K 10 0 0 xs))
+            (made ∙ ap (λ (y : Framed). frameOut size y out) q ∙ sym (refuses-out K 10 0 0 xs out))
 
     -- where the frame leaves room for the column
     pub record Room : Type 0 where
@@ -183,4 +186,4 @@ module _ {A : Type 0} (K : Kind A) {s : List ℕ} {position : ℕ} (g : HasRow s
         ∙ ap (λ (n : ℕ). take (length head) (frameOut size (room head tail) out) ++ (W ++ drop n (drop (length head) (frameOut size (room head tail) out)))) (sym sizes)
         ∙ frame-filled s (g .specs) (g .lens) (g .next) position size (length out) head tail (g .is) (m .is) W (sym sizes) out refl in
         let t : take (f .len) out′ ≡ B = ap (take (f .len)) o ∙ take-at B (drop (length B) out) (f .len) (sym (m .len-is)) in
-        by (ends ∙ ap (λ (b : Bool). cond b (accepted 0 xs B) (late 10 0 0 xs)) (le-leb (length B) (length out) (m .fits))) (a ∙ ap blockAnswer t ∙ block-sound B reads) o
+        by (ends ∙ ap (λ (b : Bool). cond b (accepted 0 xs B) (refuses K 10 0 0 xs)) (le-leb (length B) (length out) (m .fits))) (a ∙ ap blockAnswer t ∙ block-sound B reads) o

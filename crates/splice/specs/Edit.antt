@@ -2,7 +2,7 @@
 -- list; 5 for the result; 9 when slots are fewer than the longer of old and new list; 7; 10." 02, [12]: "Refuse an edit whose end lies beyond
 -- the list with 18, where the start is checked."
 use Prim.Native.Nat.{ℕ, _+_, max}
-use mathlib.Core.List.{List, _++_, map}
+use mathlib.Core.List.{List, _++_}
 use mathlib.Core.Option.{Option, none, some}
 use mathlib.Core.Bool.{Bool, false, cond, _&&_, _||_}
 use lib.Dec.{ltb, leb, eqb}
@@ -17,6 +17,7 @@ use Rattle.block_frame.specs.Columns.{newBlock}
 use Rattle.column_part.specs.Part.{startOf}
 use Rattle.raw_column.specs.Rows.{noTable, opened}
 use Rattle.slots.specs.Splice.{spliced, inSlots}
+use Rattle.text.specs.Given.{namesGiven}
 use Rattle.splice.specs.Kind.{Kind}
 use Rattle.splice.specs.declared.ColumnKind.{ColumnKind}
 use Rattle.splice.specs.declared.ColumnKind.the-variants as kind
@@ -24,7 +25,7 @@ use Rattle.splice.specs.declared.Spliced.{Spliced}
 use Rattle.splice.specs.declared.End.{End}
 use Rattle.splice.specs.declared.End.the-variants as ending
 
--- what an edit comes to: stopped, and nothing is changed; late, with 7 or 10, and the slots hold the new list; accepted, with the new block.
+-- what an edit comes to: stopped, and nothing is changed; late, with 7 or 10, where the slots hold the new list; accepted, with the new block.
 -- `old` is the old list's length
 pub data Edited (A : Type 0) : Type 0 where
   stop : ℕ → ℕ → Edited A
@@ -41,11 +42,12 @@ abbrev pub below : ℕ → End → Bool
 below start (ending.At e) = ltb e start
 below start ending.OfList = false
 
--- refusal 17: is the specification's type one of the kind? (01, "Specifications": 1 Actor, 2 Integer, 3 DeltaInteger, 4 Boolean)
+-- refusal 17: is the specification's type one of the kind? (01, "Specifications": 1 Actor, 2 Integer, 3 DeltaInteger, 4 Boolean, 5 String)
 unfoldable pub serves : ColumnKind → ℕ → Bool
 serves kind.Integer spec = eqb (typeOf spec) 1 || eqb (typeOf spec) 2
 serves kind.Delta spec = eqb (typeOf spec) 3
 serves kind.Boolean spec = eqb (typeOf spec) 4
+serves kind.Text spec = eqb (typeOf spec) 5
 
 -- refusal 8 of an edit: the lengths of the slots and of the new list first, then the first bad byte of the new readings
 abbrev pub flagsIn : Option ℕ → Answer
@@ -58,12 +60,21 @@ givenOptional values flags new newFlags = cond (eqb values flags && eqb new (len
 unfoldable pub givenBoolean : List ℕ → Answer
 givenBoolean new = flagsIn (badFlag 0 new)
 
+-- the same of names: three slices of slots; "for new names 20 stands directly after 8"
+unfoldable pub givenText : ℕ → ℕ → ℕ → List ℕ → List ℕ → List ℕ → List ℕ → Answer
+givenText starts lens flags bytes newStarts newLens newFlags =
+    cond (eqb starts lens && eqb lens flags) (namesGiven bytes newStarts newLens newFlags) (refused 8 0)
+
 module _ {A : Type 0} (K : Kind A) where
+  -- 7 and 10: the slots hold the new list, or are left as found
+  abbrev pub refuses : ℕ → ℕ → ℕ → List A → Edited A
+  refuses number place old xs = cond (K .keeps) (stop number place) (late number place old xs)
+
   -- 7, 10, and the new block, of which `block` gives the bytes for a column's
   abbrev pub finished : ℕ → List A → ℕ → (List ℕ → List ℕ) → Option ℕ → Edited A
-  finished old xs room block (some i) = late 7 i old xs
+  finished old xs room block (some i) = refuses 7 i old xs
   finished old xs room block none =
-      cond (leb (length (block (K .writes xs))) room) (accepted old xs (block (K .writes xs))) (late 10 0 old xs)
+      cond (leb (length (block (K .writes xs))) room) (accepted old xs (block (K .writes xs))) (refuses 10 0 old xs)
 
   -- 18 for the start and the end, 5 and 9, of a column that reads as `old`
   abbrev pub editList : List A → ℕ → End → List A → ℕ → ℕ → (List ℕ → List ℕ) → Edited A
@@ -125,11 +136,11 @@ answered (stop number place) = refusal number place
 answered (late number place old xs) = refusal number place
 answered (accepted old xs block) = acceptance block
 
--- what is left behind: a slot slice that holds f of each reading (z where nothing is any more), and the output
-abbrev pub slotsLeft : {A B : Type 0} → B → (A → B) → Edited A → List B → List B
+-- what is left behind: a slot slice that holds f of the list (z where nothing is any more), and the output
+abbrev pub slotsLeft : {A B : Type 0} → B → (List A → List B) → Edited A → List B → List B
 slotsLeft z f (stop number place) slots = slots
-slotsLeft z f (late number place old xs) slots = inSlots z slots old (map f xs)
-slotsLeft z f (accepted old xs block) slots = inSlots z slots old (map f xs)
+slotsLeft z f (late number place old xs) slots = inSlots z slots old (f xs)
+slotsLeft z f (accepted old xs block) slots = inSlots z slots old (f xs)
 
 abbrev pub outLeft : {A : Type 0} → Edited A → List ℕ → List ℕ
 outLeft (stop number place) out = out

@@ -12,6 +12,7 @@ use Rattle.encoding.specs.Walk.{outcome}
 use Rattle.rle_decoder.specs.Word.{u64E}
 use Rattle.delta_decoder.specs.Sums.{deltaTrace}
 use Rattle.boolean_decoder.specs.Turns.{boolTrace}
+use Rattle.text.specs.Text.{textE}
 use Rattle.raw_column.specs.Table.{Tab, tab, faulty, parse}
 use Rattle.column_part.specs.Part.{startOf}
 use Rattle.splice.specs.Edit.{endIn, below, serves}
@@ -41,6 +42,7 @@ unfoldable pub countAs : ColumnKind → List ℕ → Answer
 countAs kind.Integer s = outcome (trace u64E s)
 countAs kind.Delta s = outcome (deltaTrace s)
 countAs kind.Boolean s = outcome (boolTrace s)
+countAs kind.Text s = outcome (trace textE s)
 
 -- the new list's length
 abbrev pub resultLength : ℕ → ℕ → End → ℕ → ℕ

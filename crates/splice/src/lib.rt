@@ -7,7 +7,7 @@ ghost use lib.Dec.{leb};
 ghost use lib.ListN.{length, take};
 ghost use Rattle.encoding.specs.Cases.{answerOf};
 ghost use Rattle.encoding.specs.Limit.{limit};
-ghost use Rattle.splice.specs.Edit.{endIn, below, serves, givenOptional, refusal, blockAnswer};
+ghost use Rattle.splice.specs.Edit.{endIn, below, serves, givenOptional, givenText, refusal, blockAnswer};
 ghost use Rattle.splice.specs.Steps.{rowFor, countAs, resultJudged, onResult, columnPlanned, planOf, planFor};
 use column_specification::ColumnSpec;
 use encoding::Answer;
@@ -30,6 +30,7 @@ pub enum ColumnKind {
     Integer,
     Delta,
     Boolean,
+    Text,
 }
 
 // Where a range of readings ends: before the reading at an index, or where the list does.
@@ -67,6 +68,7 @@ fn is_served(kind: ColumnKind, spec: u32) -> bool
         ColumnKind::Integer => t == 1 || t == 2,
         ColumnKind::Delta => t == 3,
         ColumnKind::Boolean => t == 4,
+        ColumnKind::Text => t == 5,
     }
 }
 
@@ -115,6 +117,27 @@ fn judge_new(values: usize, present: usize, new: usize, new_present: &[u8]) -> A
     }
 }
 
+// The same of names: three slices of slots, then the list, in which 20 stands directly after 8.
+fn judge_names(
+    starts: usize,
+    lens: usize,
+    present: usize,
+    bytes: &[u8],
+    new_starts: &[u64],
+    new_lens: &[u64],
+    new_present: &[u8],
+) -> Answer
+    ensures { λ r. ⌜ answerOf r ≡ givenText starts lens present (now (bytes .entry)) (now («new_starts» .entry)) (now («new_lens» .entry)) (now («new_present» .entry)) ⌝ }
+{
+    if starts != lens {
+        return Answer::Refused(8, 0);
+    }
+    if lens != present {
+        return Answer::Refused(8, 0);
+    }
+    given_names::check_names(bytes, new_starts, new_lens, new_present)
+}
+
 // How many readings the column has, read as its kind is, or its first fault.
 fn count_as(kind: ColumnKind, column: &[u8]) -> Answer
     ensures { λ r. ⌜ answerOf r ≡ countAs kind (now (column .entry)) ⌝ }
@@ -123,6 +146,7 @@ fn count_as(kind: ColumnKind, column: &[u8]) -> Answer
         ColumnKind::Integer => rle_decoder::count(column),
         ColumnKind::Delta => delta_decoder::count(column),
         ColumnKind::Boolean => boolean_decoder::count(column),
+        ColumnKind::Text => text_decoder::count(column),
     }
 }
 
@@ -234,6 +258,50 @@ pub fn plan(
     match row_at(block, position, kind, start, end) {
         Row::At(at, till) => match judge_new(values, present, new, new_present) {
             Answer::Done(_) => plan_column(block, at, till, kind, start, end, new, values),
+            Answer::Refused(n, place) => Planned::Refused(n, place),
+        },
+        Row::Refused(n, place) => Planned::Refused(n, place),
+    }
+}
+
+// The same of an edit of names.
+pub fn plan_text(
+    block: &[u8],
+    position: usize,
+    start: usize,
+    end: End,
+    bytes: &[u8],
+    new_starts: &[u64],
+    new_lens: &[u64],
+    new_present: &[u8],
+    starts: usize,
+    lens: usize,
+    present: usize,
+) -> Planned
+    ensures { λ r. ⌜ planOf r ≡ planFor ColumnKind.Text (now (block .entry)) position start end
+        (givenText starts lens present (now (bytes .entry)) (now («new_starts» .entry)) (now («new_lens» .entry)) (now («new_present» .entry)))
+        (length (now («new_starts» .entry))) starts ⌝ }
+{
+    match row_at(block, position, ColumnKind::Text, start, end) {
+        Row::At(at, till) => match judge_names(
+            starts,
+            lens,
+            present,
+            bytes,
+            new_starts,
+            new_lens,
+            new_present,
+        ) {
+            Answer::Done(_) => plan_column(
+                block,
+                at,
+                till,
+                ColumnKind::Text,
+                start,
+                end,
+                new_starts.len(),
+                starts,
+            ),
             Answer::Refused(n, place) => Planned::Refused(n, place),
         },
         Row::Refused(n, place) => Planned::Refused(n, place),

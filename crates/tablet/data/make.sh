@@ -1,13 +1,13 @@
 #!/bin/sh
 # Makes the sample blocks anew, in this folder:   sh samples/make.sh
-# wedge.block and stroke.block are made by the tool itself. cut.block is what a copy that broke off leaves, here inside a number;
+# wedge.block, stroke.block and signs.block are made by the tool itself. cut.block is what a copy that broke off leaves, here inside a number;
 # cut-between.block ends between two numbers of a run, and cut-behind.block behind a run. In torn.block someone "mended" the
 # table of such a copy: its lengths fit again, and the first column still ends inside a number.
 # long.block has columns of many readings in few bytes: 72,500 depths and as many booleans, and 4,294,967,295 times the number 5.
-# refusals/NN.block is a small block for refusal NN of documents 01 and 02.
+# refusals/NN.block is a small block for refusal NN of documents 01 and 02; 01-name.block ends inside a name.
 set -eu
 cd "$(dirname "$0")"
-rm -f wedge.block stroke.block
+rm -f wedge.block stroke.block signs.block
 ../../../tablet script make.txt
 head -c 55 wedge.block >cut.block
 head -c 54 wedge.block >cut-between.block
@@ -22,6 +22,7 @@ head -c 53 wedge.block >cut-behind.block
 } >long.block
 cd refusals
 printf '\003\023\350' >01.block
+printf '\001\105\006\176\002AN\003K' >01-name.block
 printf '\001\062\013\001\377\377\377\377\377\377\377\377\377\002' >02.block
 printf '\001\062\003\001\200\000' >03.block
 printf '\001\062\006\200\200\200\200\020\000' >05.block
@@ -31,5 +32,6 @@ printf '\101' >11.block
 printf '\002\062\000\023\000' >12.block
 printf '\001\033\000' >13.block
 printf '\001\023\000\000' >15.block
-printf '\001\025\000' >17.block
+printf '\001\020\000' >17.block
+printf '\001\105\006\176\002AN\001\377' >20.block
 printf '\003\023\150\044' >21.block

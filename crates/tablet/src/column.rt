@@ -1,10 +1,11 @@
 // One column of a file, as a command names it: FILE COLUMN.
 use crate::cut;
 use crate::files;
+use crate::parts::between;
+use crate::parts::plus;
 use crate::pen;
 use crate::pen::Desk;
 use crate::refusals;
-use crate::text::between;
 use crate::words;
 use decimal::Decimal;
 
@@ -32,14 +33,6 @@ fn none(number: u8, position: usize) -> Column {
         spec: 0,
         start: 0,
         end: 0,
-    }
-}
-
-fn plus(a: usize, b: usize) -> usize {
-    if b <= usize::MAX - a {
-        a + b
-    } else {
-        usize::MAX
     }
 }
 

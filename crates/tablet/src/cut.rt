@@ -1,9 +1,9 @@
 // A block whose file ends inside a column: which one, and where. The table itself reads; only its data are short.
 use crate::kinds;
+use crate::parts::between;
 use crate::pen;
 use crate::pen::Pen;
 use crate::refusals;
-use crate::text::between;
 use crate::walk;
 use encoding::Answer;
 use leb128::ParsedU32;

@@ -7,6 +7,7 @@ use crate::help;
 use crate::kinds;
 use crate::kinds::Kind;
 use crate::numbers;
+use crate::parts::between;
 use crate::pen;
 use crate::pen::Desk;
 use crate::pen::Pen;
@@ -14,7 +15,6 @@ use crate::places;
 use crate::rooms;
 use crate::svg;
 use crate::terminal;
-use crate::text::between;
 use crate::walk;
 use crate::words;
 use decimal::HALF;
@@ -182,6 +182,18 @@ fn draw_refused(
     false
 }
 
+fn say_names(path: &[u8], position: usize, n: u64, desk: Desk) -> bool {
+    pen::form(
+        files::about(path, desk),
+        b"column %: a text column (names: %) is not drawn; tablet read lists it\n",
+        position as u64,
+        n,
+        0,
+        0,
+    );
+    false
+}
+
 // A column of n readings, which are walked first for what is known of all of them.
 fn draw_walked(
     path: &[u8],
@@ -192,6 +204,9 @@ fn draw_walked(
     over: bool,
     desk: Desk,
 ) -> bool {
+    if kinds::is_text(kinds::of_spec(s.spec)) {
+        return say_names(path, s.position, n, desk);
+    }
     if walk::LONGEST < n {
         column::say_long(path, s.position, n, desk);
         return false;

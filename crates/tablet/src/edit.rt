@@ -10,14 +10,14 @@ use crate::given;
 use crate::help;
 use crate::kinds;
 use crate::kinds::Kind;
+use crate::parts::after;
+use crate::parts::between;
 use crate::pen;
 use crate::pen::Desk;
 use crate::pen::Pen;
 use crate::range;
 use crate::range::Range;
 use crate::rooms;
-use crate::text::after;
-use crate::text::between;
 use crate::walk;
 use crate::words;
 use encoding::Answer;
@@ -127,6 +127,7 @@ fn edit_with(
     path: &[u8],
     block: &[u8],
     w: Wanted,
+    names: &[u8],
     new: &[u64],
     present: &[u8],
     to: &[u8],
@@ -135,21 +136,23 @@ fn edit_with(
     let mut out = rooms::block();
     let kind = w.kind;
     let range = w.range;
-    let e = apply::apply(block, range, kind, new, present, &mut out);
+    let e = apply::apply(block, range, kind, names, new, present, &mut out);
     finish(path, e, w, &out, new.len(), to, desk)
 }
 
 // The edit of a column that the block has, by readings as text.
 fn edit_column(path: &[u8], block: &[u8], w: Wanted, text: &[u8], to: &[u8], desk: Desk) -> bool {
+    let mut names = rooms::names();
     let mut new = rooms::unsigned();
     let mut present = rooms::flags();
     let kind = w.kind;
-    let n = given::readings(text, kind, &mut new, &mut present, desk);
+    let n = given::readings(text, kind, &mut names, &mut new, &mut present, desk);
     if n == given::NONE {
         return false;
     }
     let all = rooms::front(&new, n);
-    edit_with(path, block, w, all, between(&present, 0, n), to, desk)
+    let here = between(&present, 0, n);
+    edit_with(path, block, w, &names, all, here, to, desk)
 }
 
 fn wanted_of(block: &[u8], c: Column, r: Range, over: bool) -> Wanted {

@@ -1,9 +1,9 @@
 // Files: read whole, and written completely or not at all.
+use crate::parts::between;
+use crate::parts::put;
 use crate::pen;
 use crate::pen::Desk;
 use crate::pen::Pen;
-use crate::text::between;
-use crate::text::put;
 use crate::words;
 
 // The file was not read, and why was said.

@@ -13,7 +13,7 @@ fn say_looking(p: Pen) -> Pen {
                                the readings of the column at a position, one a line, absent ones as -; of all of it, or
                                from START up to, not including, END
   tablet draw FILE COLUMN [--svg OUT [--over]]
-                               the readings as a picture: in the terminal, or as a file for a browser
+                               the readings as a picture: in the terminal, or as a file for a browser; names are not drawn
   tablet check FILE..          one line a file: sound, or the first refusal of each column
 ",
     )
@@ -28,6 +28,7 @@ fn say_writing(p: Pen) -> Pen {
   tablet make OUT COLUMN.. [--over]
                                a new block of columns, each TYPE:ID=READING,READING,..  as in
                                tablet make my.block delta:1=80,80,-,81 boolean:2=1,0,0 integer:3=7,7,7
+                               tablet make signs.block 'text:4=AN,KI,-,\"two words\"'
   tablet script FILE           runs each line of FILE as a command (without the word tablet; # begins a remark)
 ",
     )
@@ -37,11 +38,16 @@ fn say_rules(p: Pen) -> Pen {
     pen::text(
         p,
         b"
-A column's position counts from 0. Types are delta (whole numbers, kept as differences), integer and actor (from 0 on)
-and boolean. A reading is a number, - where it is absent, or true, false, 1, 0; 80x5 stands for five times 80.
+A column's position counts from 0. Types are delta (whole numbers, kept as differences), integer and actor (from 0 on),
+boolean and text. A reading is a number, - where it is absent, or true, false, 1, 0; 80x5 stands for five times 80.
+A reading of a text column is a name, as it stands or in double quotes. In quotes it may hold commas, be - or be empty.
+In a name a double quote is written twice, and \\x1f stands for the byte of these hex digits: a backslash is \\x5c. Names
+have no count. read lists names as make and edit take them, bytes that a terminal may take for a command as \\xNN. A shell
+takes quotes for its own: put the word in single quotes as well. In a script a blank between double quotes ends no word.
 OUT is written completely or not at all. A file that is there already, the input among them, is left as it is, unless
 --over is the last word: then it is replaced. Blocks have at most 524,288 bytes; a column that is read or drawn
-has at most 10,000,000 readings, and one that is edited or made 32,768.
+has at most 10,000,000 readings, and one that is edited or made, or a text column that is read, 32,768. A list of names
+is given in at most 131,072 bytes.
 What goes wrong is said on standard error, and ./tablet then ends with status 1.
 ",
     )

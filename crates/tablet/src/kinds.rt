@@ -10,11 +10,13 @@ pub enum Kind {
     // optional u64
     Unsigned,
     YesNo,
+    // optional names
+    Text,
     // a type that no column reader serves
     Unserved,
 }
 
-// 01's types: 1 Actor, 2 Integer, 3 DeltaInteger, 4 Boolean.
+// 01's types: 1 Actor, 2 Integer, 3 DeltaInteger, 4 Boolean, 5 String.
 pub fn of_spec(spec: u32) -> Kind {
     let t = ColumnSpec(spec).col_type().as_u8();
     if t == 3 {
@@ -28,6 +30,9 @@ pub fn of_spec(spec: u32) -> Kind {
     }
     if t == 2 {
         return Kind::Unsigned;
+    }
+    if t == 5 {
+        return Kind::Text;
     }
     Kind::Unserved
 }
@@ -48,10 +53,14 @@ pub fn is_yes_no(kind: Kind) -> bool {
     if let Kind::YesNo = kind { true } else { false }
 }
 
+pub fn is_text(kind: Kind) -> bool {
+    if let Kind::Text = kind { true } else { false }
+}
+
 // The type in words, in a field of so many places.
 pub fn say(p: Pen, spec: u32, width: usize) -> Pen {
     let t = ColumnSpec(spec).col_type().as_u8();
-    let names = b"group\0actor\0integer\0delta integer\0boolean\0string\0value metadata\0value\0";
+    let names = b"group\0actor\0integer\0delta integer\0boolean\0text\0value metadata\0value\0";
     pen::padded(p, words::word(names, t as usize), width)
 }
 

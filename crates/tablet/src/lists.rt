@@ -1,10 +1,14 @@
-// Lists of readings as they are given: readings with a comma or a word's end between two, each with a count behind an x or not.
+// Lists of readings as they are given: readings with a comma or a word's end between two, each with a count behind an x or not. Names have no
+// count, and a comma between double quotes parts nothing.
+use crate::kinds;
 use crate::kinds::Kind;
+use crate::names;
 use crate::numbers;
-use crate::text::NO_ROOM;
-use crate::text::after;
-use crate::text::between;
-use crate::text::find;
+use crate::parts::NO_ROOM;
+use crate::parts::after;
+use crate::parts::between;
+use crate::parts::find;
+use crate::parts::plus;
 use decimal::Decimal;
 use decimal::Reading;
 
@@ -14,6 +18,10 @@ pub const NO_NUMBER: u8 = 1;
 pub const OUT_OF_RANGE: u8 = 2;
 
 pub const TOO_MANY: u8 = 3;
+
+pub const NO_TEXT: u8 = 4;
+
+pub const TOO_LONG: u8 = 5;
 
 // A reading so many times; or what is wrong. The fault is 0 where nothing is.
 struct Item {
@@ -34,12 +42,18 @@ pub struct List {
 // The end of the reading that begins at `at`.
 fn reading_end(s: &[u8], at: usize) -> usize {
     let mut i = at;
+    let mut open = false;
     while i < s.len() {
-        if s[i] == b',' {
-            return i;
-        }
         if s[i] == 0 {
             return i;
+        }
+        if s[i] == b',' {
+            if !open {
+                return i;
+            }
+        }
+        if s[i] == b'"' {
+            open = !open;
         }
         i += 1;
     }
@@ -78,6 +92,31 @@ fn read_item(s: &[u8], kind: Kind) -> Item {
     }
 }
 
+// A name, put among the names at the index at which it is given: it is not longer than that text.
+fn read_name(s: &[u8], names: &mut [u8], at: usize) -> Item {
+    if check::same(s, b"-") {
+        return item_with(0, 0, 0, 1);
+    }
+    if names.len() < plus(at, s.len()) {
+        return item_with(TOO_LONG, 0, 0, 0);
+    }
+    let end = names::put(s, names, at);
+    if end == NO_ROOM {
+        return item_with(NO_NUMBER, 0, 0, 0);
+    }
+    if utf8::is_utf8(between(names, at, end)) {
+        return item_with(0, names::kept(at as u64, end as u64), 1, 1);
+    }
+    item_with(NO_TEXT, 0, 0, 0)
+}
+
+fn item_at(s: &[u8], at: usize, end: usize, kind: Kind, names: &mut [u8]) -> Item {
+    if kinds::is_text(kind) {
+        return read_name(between(s, at, end), names, at);
+    }
+    read_item(between(s, at, end), kind)
+}
+
 // Puts one reading `times` times into the slots from n on, where they fit; the slot behind them, or NO_ROOM.
 fn repeat(
     value: u64,
@@ -114,8 +153,14 @@ fn wrong(fault: u8, at: usize, end: usize) -> List {
     }
 }
 
-// Puts the readings of a list into the first slots.
-pub fn fill(s: &[u8], kind: Kind, values: &mut [u64], present: &mut [u8]) -> List {
+// Puts the readings of a list into the first slots, and the bytes of names among `names`.
+pub fn fill(
+    s: &[u8],
+    kind: Kind,
+    names: &mut [u8],
+    values: &mut [u64],
+    present: &mut [u8],
+) -> List {
     let mut n = 0;
     let mut at = 0;
     let mut turns = s.len();
@@ -124,7 +169,7 @@ pub fn fill(s: &[u8], kind: Kind, values: &mut [u64], present: &mut [u8]) -> Lis
             break;
         }
         let end = reading_end(s, at);
-        let i = read_item(between(s, at, end), kind);
+        let i = item_at(s, at, end, kind, names);
         if i.fault != 0 {
             return wrong(i.fault, at, end);
         }

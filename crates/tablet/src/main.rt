@@ -15,7 +15,9 @@ mod kept;
 mod kinds;
 mod lists;
 mod make;
+mod names;
 mod numbers;
+mod parts;
 mod pen;
 mod places;
 mod range;
@@ -27,7 +29,6 @@ mod show;
 mod sound;
 mod svg;
 mod terminal;
-mod text;
 mod walk;
 mod words;
 
@@ -50,12 +51,12 @@ fn run(line: &[u8]) -> bool {
 fn main() {
     let mut line = rooms::block();
     let n = words::arguments(&mut line);
-    if n == text::NO_ROOM {
+    if n == parts::NO_ROOM {
         pen::text(
             pen::on(2),
             b"tablet: the words of the command are longer than the 524,288 bytes that this tool takes; tablet script takes long lists\n",
         );
         return;
     }
-    run(text::between(&line, 0, n));
+    run(parts::between(&line, 0, n));
 }

@@ -6,14 +6,14 @@ use crate::files;
 use crate::given;
 use crate::help;
 use crate::kinds;
+use crate::parts::after;
+use crate::parts::between;
+use crate::parts::find;
 use crate::pen;
 use crate::pen::Desk;
 use crate::range::Range;
 use crate::refusals;
 use crate::rooms;
-use crate::text::after;
-use crate::text::between;
-use crate::text::find;
 use crate::words;
 use column_specification::ColumnSpec;
 use column_specification::ColumnType;
@@ -56,8 +56,8 @@ fn with_id(t: ColumnType, id: Decimal) -> Spec {
 
 // The types that can be made, from 1 on as in 01.
 fn of_type(name: &[u8], id: Decimal) -> Spec {
-    let i = words::index(b"actor\0integer\0delta\0boolean\0", name);
-    if 3 < i {
+    let i = words::index(b"actor\0integer\0delta\0boolean\0text\0", name);
+    if 4 < i {
         return Spec::NoColumn;
     }
     with_id(ColumnType::from_u8(i as u8 + 1), id)
@@ -80,7 +80,7 @@ fn say_no_column(text: &[u8], desk: Desk) {
     let p = pen::text(pen::on(desk.notes), b"tablet: \"");
     pen::text(
         pen::text(p, text),
-        b"\" is no column: TYPE:ID=READING,READING,.. with the type delta, integer, actor or boolean\n",
+        b"\" is no column: TYPE:ID=READING,READING,.. with the type delta, integer, actor, boolean or text\n",
     );
 }
 
@@ -144,7 +144,7 @@ fn is_table(to: &[u8], block: &[u8], desk: Desk) -> bool {
 }
 
 fn copy(from: &[u8], to: &mut [u8]) -> usize {
-    crate::text::put(to, 0, from)
+    crate::parts::put(to, 0, from)
 }
 
 // The block of len bytes with the readings of a column edited in; how long it is then.
@@ -154,9 +154,10 @@ fn fill_column(text: &[u8], position: usize, block: &mut [u8], len: usize, desk:
     };
     let kind = kinds::of_spec(spec);
     let list = between(text, after(find(text, 0, b'=')), text.len());
+    let mut names = rooms::names();
     let mut new = rooms::unsigned();
     let mut present = rooms::flags();
-    let n = given::readings(list, kind, &mut new, &mut present, desk);
+    let n = given::readings(list, kind, &mut names, &mut new, &mut present, desk);
     if n == given::NONE {
         return STOPPED;
     }
@@ -164,6 +165,7 @@ fn fill_column(text: &[u8], position: usize, block: &mut [u8], len: usize, desk:
         text,
         position,
         kind,
+        &names,
         rooms::front(&new, n),
         between(&present, 0, n),
         block,
@@ -176,6 +178,7 @@ fn replace(
     text: &[u8],
     position: usize,
     kind: kinds::Kind,
+    names: &[u8],
     new: &[u64],
     present: &[u8],
     block: &mut [u8],
@@ -188,7 +191,15 @@ fn replace(
         start: 0,
         end: End::At(0),
     };
-    let e = apply::apply(between(block, 0, len), r, kind, new, present, &mut out);
+    let e = apply::apply(
+        between(block, 0, len),
+        r,
+        kind,
+        names,
+        new,
+        present,
+        &mut out,
+    );
     if e.number != 0 {
         let name = between(text, 0, find(text, 0, b'='));
         column::say_refused(name, position, e.number, e.place, desk);

@@ -1,9 +1,9 @@
-// Readings as text, by their kind. A signed reading z is kept as z + 2^63.
+// Readings as text, by their kind; names have a file of their own. A signed reading z is kept as z + 2^63.
 use crate::kinds;
 use crate::kinds::Kind;
+use crate::parts;
 use crate::pen;
 use crate::pen::Pen;
-use crate::text;
 use crate::words;
 use decimal::HALF;
 use decimal::Reading;
@@ -50,6 +50,7 @@ pub fn say(p: Pen, kind: Kind, value: u64) -> Pen {
         Kind::Signed => say_signed(p, value),
         Kind::Unsigned => pen::number(p, value),
         Kind::YesNo => say_yes_no(p, value),
+        Kind::Text => p,
         Kind::Unserved => p,
     }
 }
@@ -59,13 +60,14 @@ pub fn width(kind: Kind, value: u64) -> usize {
     match kind {
         Kind::Signed => {
             if value < HALF {
-                text::after(pen::digits(HALF - value))
+                parts::after(pen::digits(HALF - value))
             } else {
                 pen::digits(value - HALF)
             }
         }
         Kind::Unsigned => pen::digits(value),
         Kind::YesNo => { if value == 0 { 5 } else { 4 } }
+        Kind::Text => 0,
         Kind::Unserved => 0,
     }
 }

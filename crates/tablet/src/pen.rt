@@ -1,7 +1,7 @@
 // Writing: a pen is a descriptor, and whether all that was written so far came through.
-use crate::text::after;
-use crate::text::between;
-use crate::text::find;
+use crate::parts::after;
+use crate::parts::between;
+use crate::parts::find;
 
 pub struct Pen {
     pub fd: i32,

@@ -3,14 +3,17 @@ use crate::column;
 use crate::help;
 use crate::kinds;
 use crate::kinds::Kind;
+use crate::names;
 use crate::numbers;
+use crate::parts::between;
+use crate::parts::byte_at;
+use crate::parts::plus;
 use crate::pen;
 use crate::pen::Desk;
 use crate::pen::Pen;
 use crate::range;
 use crate::range::Range;
 use crate::rooms;
-use crate::text::between;
 use crate::walk;
 use crate::walk::Walked;
 use crate::words;
@@ -61,8 +64,62 @@ fn say_between(p: Pen, part: &[u8], kind: Kind, a: usize, e: usize) -> Said {
     }
 }
 
+// The name of so many bytes from `start` on.
+fn say_name(p: Pen, part: &[u8], start: u64, len: u64, here: u8) -> Pen {
+    if here == 0 {
+        return pen::text(p, b"-\n");
+    }
+    let end = plus(start as usize, len as usize);
+    pen::text(names::say(p, between(part, start as usize, end)), b"\n")
+}
+
+fn say_names(
+    p: Pen,
+    part: &[u8],
+    starts: &[u64],
+    lens: &[u64],
+    present: &[u8],
+    a: usize,
+    e: usize,
+) -> Pen {
+    let mut q = p;
+    let mut i = a;
+    while i < e {
+        q = say_name(
+            q,
+            part,
+            rooms::at(starts, i),
+            rooms::at(lens, i),
+            byte_at(present, i),
+        );
+        i += 1;
+    }
+    q
+}
+
+// Names are decoded into slots, of which there are as many as for an edit.
+fn read_names(path: &[u8], part: &[u8], r: Range, e: usize, desk: Desk) -> bool {
+    let mut starts = rooms::unsigned();
+    let mut lens = rooms::unsigned();
+    let mut present = rooms::flags();
+    match text_decoder::decode(part, &mut starts, &mut lens, &mut present) {
+        Answer::Done(_) => {
+            let p = pen::on(desk.out);
+            let q = say_names(p, part, &starts, &lens, &present, r.start, e);
+            pen::finish(q, desk)
+        }
+        Answer::Refused(number, place) => {
+            column::say_refused(path, r.position, number, place, desk);
+            false
+        }
+    }
+}
+
 // A range that the column has.
 fn read_between(path: &[u8], part: &[u8], kind: Kind, r: Range, e: usize, desk: Desk) -> bool {
+    if kinds::is_text(kind) {
+        return read_names(path, part, r, e, desk);
+    }
     let s = say_between(pen::on(desk.out), part, kind, r.start, e);
     let said = pen::finish(s.pen, desk);
     if s.number == 0 {

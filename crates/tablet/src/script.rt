@@ -2,12 +2,13 @@
 use crate::commands;
 use crate::files;
 use crate::help;
+use crate::parts::after;
+use crate::parts::between;
+use crate::parts::byte_at;
+use crate::parts::find;
 use crate::pen;
 use crate::pen::Desk;
 use crate::rooms;
-use crate::text::after;
-use crate::text::between;
-use crate::text::find;
 use crate::words;
 
 // How many commands there were, and how many went wrong.
@@ -23,21 +24,35 @@ fn split(line: &[u8], out: &mut [u8]) -> usize {
     }
     let mut n = 0;
     let mut i = 0;
+    let mut open = false;
     while i <= line.len() {
-        n = put_byte(line, i, out, n);
+        n = put_byte(line, i, open, out, n);
+        if byte_at(line, i) == b'"' {
+            open = !open;
+        }
         i += 1;
     }
     n
 }
 
+// Does a word end here? A blank between double quotes ends none; the line's end does.
+fn is_break(line: &[u8], i: usize, open: bool) -> bool {
+    if line.len() <= i {
+        return true;
+    }
+    if open {
+        return false;
+    }
+    line[i] == b' '
+}
+
 // One byte of a line: a blank ends a word, where there is one.
-fn put_byte(line: &[u8], i: usize, out: &mut [u8], n: usize) -> usize {
+fn put_byte(line: &[u8], i: usize, open: bool, out: &mut [u8], n: usize) -> usize {
     if out.len() <= n {
         return n;
     }
-    let b = if i < line.len() { line[i] } else { b' ' };
-    if b != b' ' {
-        out[n] = b;
+    if !is_break(line, i, open) {
+        out[n] = byte_at(line, i);
         return n + 1;
     }
     if is_word_end(out, n) {

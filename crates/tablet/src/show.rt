@@ -4,12 +4,13 @@ use crate::files;
 use crate::help;
 use crate::kinds;
 use crate::kinds::Kind;
+use crate::parts::between;
+use crate::parts::plus;
 use crate::pen;
 use crate::pen::Desk;
 use crate::pen::Pen;
 use crate::refusals;
 use crate::rooms;
-use crate::text::between;
 use crate::walk;
 use crate::words;
 use encoding::Answer;
@@ -76,14 +77,6 @@ fn show_columns(p: Pen, block: &[u8], rows: usize) -> Shown {
         i += 1;
     }
     Shown { pen: q, bad }
-}
-
-pub fn plus(a: usize, b: usize) -> usize {
-    if b <= usize::MAX - a {
-        a + b
-    } else {
-        usize::MAX
-    }
 }
 
 // A note where columns do not read.

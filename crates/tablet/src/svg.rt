@@ -5,11 +5,11 @@ use crate::draw::Subject;
 use crate::kinds;
 use crate::kinds::Kind;
 use crate::numbers;
+use crate::parts::byte_at;
 use crate::pen;
 use crate::pen::Pen;
 use crate::places;
 use crate::refusals;
-use crate::text::byte_at;
 use picture::Scale;
 use picture::Stretch;
 

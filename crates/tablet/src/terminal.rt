@@ -4,12 +4,12 @@ use crate::draw::Subject;
 use crate::kinds;
 use crate::kinds::Kind;
 use crate::numbers;
+use crate::parts::after;
+use crate::parts::between;
 use crate::pen;
 use crate::pen::Pen;
 use crate::places;
 use crate::refusals;
-use crate::text::after;
-use crate::text::between;
 use picture::Scale;
 use picture::Stretch;
 

@@ -1,6 +1,7 @@
 // A column walked a reading at a time, by the cursor of its kind. Nothing is kept of what was passed, so a walk has no limit of its own.
 use crate::kept::kept;
 use crate::kinds::Kind;
+use crate::names;
 use boolean_cursor::BooleanAnswer;
 use boolean_cursor::BooleanCursor;
 use boolean_cursor::BooleanStepped;
@@ -36,16 +37,18 @@ pub fn count(part: &[u8], kind: Kind) -> Answer {
         Kind::Signed => delta_decoder::count(part),
         Kind::Unsigned => rle_decoder::count(part),
         Kind::YesNo => boolean_decoder::count(part),
+        Kind::Text => names::count(part),
         Kind::Unserved => Answer::Refused(17, 0),
     }
 }
 
-// Before the first reading.
+// Before the first reading. Names are not walked.
 pub fn begin(part: &[u8], kind: Kind) -> Walk {
     match kind {
         Kind::Signed => Walk::Signed(delta_cursor::new(part)),
         Kind::Unsigned => Walk::Unsigned(rle_cursor::new(part)),
         Kind::YesNo => Walk::YesNo(boolean_cursor::new(part)),
+        Kind::Text => Walk::Unserved,
         Kind::Unserved => Walk::Unserved,
     }
 }

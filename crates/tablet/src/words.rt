@@ -1,9 +1,9 @@
 // The words of a command, each with a 0 byte behind it.
-use crate::text::NO_ROOM;
-use crate::text::after;
-use crate::text::begins;
-use crate::text::between;
-use crate::text::find;
+use crate::parts::NO_ROOM;
+use crate::parts::after;
+use crate::parts::begins;
+use crate::parts::between;
+use crate::parts::find;
 
 // Where word k begins.
 pub fn start(words: &[u8], k: usize) -> usize {

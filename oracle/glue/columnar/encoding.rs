@@ -12,6 +12,7 @@ mod delta;
 pub(crate) use delta::{DeltaDecoder, DeltaEncoder};
 
 use crate::storage::parse::{self, Input, ParseError, ParseResult};
+use std::io::Read;
 
 /// Name.
 pub(crate) trait Sink {
@@ -61,12 +62,23 @@ impl Encodable for i64 {
     }
 }
 
+/// Behaviour of ours: a name is its length and its bytes.
+impl Encodable for String {
+    fn encode<S: Sink>(&self, out: &mut S) -> usize {
+        self.len().encode(out) + put(self.clone().into_bytes(), out)
+    }
+}
+
 /// Behaviour of ours: the crate reads numbers inside columns by a laxer reader that is not at hand. Here they are read
 /// by its strict one (storage/parse/leb128.rs), which document 01 prescribes there.
 #[derive(Debug)]
 pub(crate) enum DecodeError {
-    Ended,
+    /// within a number, or where one is due
+    Ended(crate::Refusal),
     Strict(parse::leb128::Error),
+    /// a name with fewer bytes than its length says
+    Cut,
+    NotUtf8,
 }
 
 impl std::fmt::Display for DecodeError {
@@ -79,11 +91,11 @@ impl std::error::Error for DecodeError {}
 
 /// Name.
 pub(crate) trait Decodable: Sized {
-    fn decode<R: std::io::Read>(bytes: &mut R) -> Result<Self, DecodeError>;
+    fn decode<R: Read>(bytes: &mut R) -> Result<Self, DecodeError>;
 }
 
 /// Takes the bytes up to the first without bit 7, at most ten, and has the crate's strict reader read them.
-fn strict<R: std::io::Read, T>(
+fn strict<R: Read, T>(
     bytes: &mut R,
     reader: impl for<'a> Fn(Input<'a>) -> ParseResult<'a, T, parse::leb128::Error>,
 ) -> Result<T, DecodeError> {
@@ -94,28 +106,42 @@ fn strict<R: std::io::Read, T>(
     }
     match reader(Input::new(&number)) {
         Ok((_, value)) => Ok(value),
-        Err(ParseError::Incomplete(_)) => Err(DecodeError::Ended),
+        Err(ParseError::Incomplete(_)) => Err(DecodeError::Ended(crate::numbers::ended(&number))),
         Err(ParseError::Error(e)) => Err(DecodeError::Strict(e)),
     }
 }
 
 /// Behaviour of ours.
 impl Decodable for u64 {
-    fn decode<R: std::io::Read>(bytes: &mut R) -> Result<Self, DecodeError> {
+    fn decode<R: Read>(bytes: &mut R) -> Result<Self, DecodeError> {
         strict(bytes, parse::leb128_u64)
     }
 }
 
 /// Behaviour of ours.
 impl Decodable for usize {
-    fn decode<R: std::io::Read>(bytes: &mut R) -> Result<Self, DecodeError> {
+    fn decode<R: Read>(bytes: &mut R) -> Result<Self, DecodeError> {
         u64::decode(bytes).map(|value| value as usize)
     }
 }
 
 /// Behaviour of ours.
 impl Decodable for i64 {
-    fn decode<R: std::io::Read>(bytes: &mut R) -> Result<Self, DecodeError> {
+    fn decode<R: Read>(bytes: &mut R) -> Result<Self, DecodeError> {
         strict(bytes, parse::leb128_i64)
+    }
+}
+
+/// Behaviour of ours: the length by the strict reader, then the bytes, all of them, then Rust's own test of UTF-8. The bytes are
+/// read as they come: no length asks for room.
+impl Decodable for String {
+    fn decode<R: Read>(bytes: &mut R) -> Result<Self, DecodeError> {
+        let length = u64::decode(bytes)?;
+        let mut name = vec![];
+        let taken = bytes.by_ref().take(length).read_to_end(&mut name);
+        if taken.ok() != Some(length as usize) {
+            return Err(DecodeError::Cut);
+        }
+        String::from_utf8(name).map_err(|_| DecodeError::NotUtf8)
     }
 }

@@ -5,7 +5,8 @@ use crate::numbers::{leb128_i64, leb128_u64, Reading};
 use crate::random::Random;
 use crate::{Refusal, Walk, TOO_MANY};
 
-/// A list by its slices: values, by their bits, and presence bytes; or the bytes of a boolean list alone.
+/// A list by its slices: values, by their bits, and presence bytes; starts, lengths and presence bytes of names; or the bytes of a
+/// boolean list alone.
 pub type Slices = Vec<Vec<u64>>;
 
 /// The crate lists readings one by one: columns of more are left out.
@@ -59,6 +60,17 @@ impl Kind {
 /// What a list is written as, or document 01's refusal and its place.
 pub type Encoding = Result<Vec<u8>, (Refusal, u64)>;
 
+/// A list as a call is given it.
+pub trait Given {
+    fn put(&self, record: Record) -> Record;
+}
+
+impl Given for Slices {
+    fn put(&self, record: Record) -> Record {
+        record.lists(self)
+    }
+}
+
 fn call(calls: &str, name: &str) -> Record {
     Record::call(&format!("{calls}_{name}"))
 }
@@ -80,8 +92,8 @@ pub fn all_lists(kinds: usize, most: usize, mut see: impl FnMut(&[usize])) {
 }
 
 /// Its length, and the list written into outputs one short, exactly full and with room behind.
-pub fn written(out: &mut String, calls: &str, list: &Slices, encoding: &Encoding) {
-    let record = call(calls, "encoded_len").lists(list);
+pub fn written(out: &mut String, calls: &str, list: &impl Given, encoding: &Encoding) {
+    let record = list.put(call(calls, "encoded_len"));
     let bytes = match encoding {
         Ok(bytes) => {
             record.accepted().number(bytes.len() as u64).end(out);
@@ -90,8 +102,7 @@ pub fn written(out: &mut String, calls: &str, list: &Slices, encoding: &Encoding
         Err((refusal, place)) => {
             record.refused_at(*refusal, *place).number(0).end(out);
             let output = [0xee; 3];
-            call(calls, "encode")
-                .lists(list)
+            list.put(call(calls, "encode"))
                 .bytes(&output)
                 .refused_at(*refusal, *place)
                 .number(0)
@@ -108,9 +119,9 @@ pub fn written(out: &mut String, calls: &str, list: &Slices, encoding: &Encoding
 }
 
 /// The list written into an output of `size` bytes.
-pub fn encoded(out: &mut String, calls: &str, list: &Slices, bytes: &[u8], size: usize) {
+pub fn encoded(out: &mut String, calls: &str, list: &impl Given, bytes: &[u8], size: usize) {
     let mut output = vec![0xee; size];
-    let record = call(calls, "encode").lists(list).bytes(&output);
+    let record = list.put(call(calls, "encode")).bytes(&output);
     if size < bytes.len() {
         record.refused_at(10, 0).number(0).bytes(&output).end(out);
         return;
@@ -154,7 +165,7 @@ pub fn read(out: &mut String, kind: &Kind, column: &[u8]) -> bool {
     for size in sizes {
         // what stands in the slots before
         let slots: Slices = (0..kind.slices)
-            .map(|slice| vec![[0xee, 7][slice]; size])
+            .map(|slice| vec![[0xee, 7, 5][slice]; size])
             .collect();
         decoded(out, kind, column, &answer, slots);
     }
@@ -200,8 +211,8 @@ pub fn decoded_by_chance(out: &mut String, kind: &Kind, column: &[u8], random: &
             } else {
                 size
             };
-            // values and bytes; a boolean list has bytes alone
-            let is_wide = kind.slices == 2 && slice == 0;
+            // the last slice is one of bytes; a boolean list has bytes alone
+            let is_wide = slice + 1 < kind.slices;
             (0..size)
                 .map(|i| match i {
                     20.. => 0xee,

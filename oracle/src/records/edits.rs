@@ -99,8 +99,8 @@ fn block(columns: &[(u32, Vec<u8>)]) -> Vec<u8> {
 }
 
 /// A column alone, in front of others, among them, and behind them.
-fn placed(column: &Column, bytes: Vec<u8>, place: usize) -> (Vec<u8>, u64) {
-    let own = (0x10 + u32::from(column.served.types[0]), bytes);
+pub fn placed(col_type: u8, bytes: Vec<u8>, place: usize) -> (Vec<u8>, u64) {
+    let own = (0x10 + u32::from(col_type), bytes);
     let before = (0x04, vec![0xaa, 0xbb]);
     let behind = (0x27, vec![0xcc, 0xdd, 0xee]);
     match place % 4 {
@@ -198,7 +198,7 @@ fn small(out: &mut String, options: &Options, random: &mut Random, column: &Colu
                         kinds.iter().map(|&kind| column.few_new[kind]).collect();
                     let new = given(&new, column.served.slices, random);
                     let mut edit = edit(
-                        placed(column, column_of(column, &old), place),
+                        placed(column.served.types[0], column_of(column, &old), place),
                         (start, end),
                         new,
                     );
@@ -221,7 +221,8 @@ fn around(out: &mut String, options: &Options, random: &mut Random, column: &Col
             for new in 0..3 {
                 let at = random.pick(&[0, 1, n / 2, n - 1, n]);
                 let new = slices(&(column.alternating)(new), column.served.slices);
-                let place = placed(column, column_of(column, &old), n + gone + new[0].len());
+                let place = n + gone + new[0].len();
+                let place = placed(column.served.types[0], column_of(column, &old), place);
                 let range = (at as u64, Some((at + gone).min(n) as u64));
                 let mut edit = edit(place, range, new);
                 lend(&column.served, &mut edit, 0, 0, random);
@@ -238,15 +239,15 @@ fn far(out: &mut String, random: &mut Random) {
         let kept = old.min(new);
         let new = slices(&(BOOLEAN.alternating)(new)[kept..], 1);
         let range = (kept as u64, Some(old as u64));
-        let mut edit = edit(placed(&BOOLEAN, column, 2), range, new);
+        let mut edit = edit(placed(4, column, 2), range, new);
         lend(&BOOLEAN.served, &mut edit, 0, 0, random);
         record(out, &BOOLEAN.served, edit);
     }
 }
 
 /// Columns of other specifications around one of the call's, in their order; and its position.
-fn chance_block(column: &Column, bytes: Vec<u8>, random: &mut Random) -> (Vec<u8>, u64) {
-    let own_type = u32::from(random.pick(column.served.types));
+pub fn chance_block(types: &[u8], bytes: Vec<u8>, random: &mut Random) -> (Vec<u8>, u64) {
+    let own_type = u32::from(random.pick(types));
     let own = (chance_spec(random) & !0xf) | own_type;
     let others = match random.below(60) {
         0 => random.below(65),
@@ -275,14 +276,19 @@ fn chance_column(column: &Column, is_faulty: bool, random: &mut Random) -> Vec<u
         _ => column_of(column, &(column.chance)(random)),
     };
     if is_faulty && !bytes.is_empty() {
-        let at = random.below(bytes.len() as u64) as usize;
-        match random.below(3) {
-            0 => bytes.truncate(at),
-            1 => drop(bytes.pop()),
-            _ => bytes[at] = random.pick(&[0x00, 0x01, 0x40, 0x7f, 0x80, 0xff]),
-        }
+        spoil_bytes(&mut bytes, random);
     }
     bytes
+}
+
+/// Cuts a column, which is not empty, or changes a byte of it.
+pub fn spoil_bytes(bytes: &mut Vec<u8>, random: &mut Random) {
+    let at = random.below(bytes.len() as u64) as usize;
+    match random.below(3) {
+        0 => bytes.truncate(at),
+        1 => drop(bytes.pop()),
+        _ => bytes[at] = random.pick(&[0x00, 0x01, 0x40, 0x7f, 0x80, 0xff]),
+    }
 }
 
 /// New readings: none, few, or as many as a list has.
@@ -294,7 +300,7 @@ fn chance_new(column: &Column, random: &mut Random) -> Slices {
 }
 
 /// A range within a list of so many readings, to its end or past it.
-fn chance_range(length: u64, random: &mut Random) -> (u64, Option<u64>) {
+pub fn chance_range(length: u64, random: &mut Random) -> (u64, Option<u64>) {
     let start = match random.below(5) {
         0 => 0,
         1 => length,
@@ -346,7 +352,7 @@ fn chance(out: &mut String, column: &Column, random: &mut Random) {
         _ => 3,
     };
     let (start, end) = chance_range(length, random);
-    let place = chance_block(column, bytes, random);
+    let place = chance_block(served.types, bytes, random);
     let mut edit = edit(place, (start, end), chance_new(column, random));
     if random.below(16) == 0 {
         damage(&mut edit.block, random);

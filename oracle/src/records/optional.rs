@@ -93,7 +93,7 @@ fn spoil(slices: &mut Slices, random: &mut Random) -> (u8, u64) {
 }
 
 /// Runs of each sort, of lengths at which a count grows by a byte, alone and beside others.
-fn long() -> Vec<Vec<Option<u64>>> {
+pub fn long() -> Vec<Vec<Option<u64>>> {
     let equal = |n: usize| vec![Some(5); n];
     let distinct = |n: usize| (0..n).map(|i| Some(1 + i as u64 % 2)).collect::<Vec<_>>();
     let absent = |n: usize| vec![None; n];
@@ -159,8 +159,12 @@ pub fn chance_column(column: &Optional, random: &mut Random) -> Vec<u8> {
     }
 }
 
-/// A row of runs of any sort: of one reading, of none, two alike side by side.
 pub fn wasteful(column: &Optional, random: &mut Random) -> Vec<u8> {
+    runs(column.value, random)
+}
+
+/// A row of runs of any sort: of one reading, of none, two alike side by side.
+pub fn runs(value: fn(&mut Random) -> Vec<u8>, random: &mut Random) -> Vec<u8> {
     let mut bytes = vec![];
     for _ in 0..random.below(6) {
         let count = match random.below(6) {
@@ -174,13 +178,13 @@ pub fn wasteful(column: &Optional, random: &mut Random) -> Vec<u8> {
             }
             1 => {
                 bytes.extend(write_i64(count.max(1) as i64));
-                bytes.extend((column.value)(random));
+                bytes.extend(value(random));
             }
             _ => {
                 let count = 1 + count % 4;
                 bytes.extend(write_i64(-(count as i64)));
                 for _ in 0..count {
-                    bytes.extend((column.value)(random));
+                    bytes.extend(value(random));
                 }
             }
         }

@@ -55,7 +55,7 @@ returns c =
     let load-i64 = c .before .before .before .before .before .before .before .before .before .before .before .before .before .before .before .before .load-i64 in
     let a = s .args in
     optional-done delta deltaTrace (λ x. refl) (pos 0) (now (a .new)) (now (a .new-present)) (now (a .values)) (now (a .present)) (s .pre .0) (s .pre .1)
-    (load-i64 .ensures) (end-in .ensures) (replace-i64 .ensures) (c .before .before .finish-i64 .ensures)
+    (load-i64 .ensures) (end-in .ensures) (replace-i64 .ensures) refl (c .before .before .finish-i64 .ensures)
 
 pub edit-i64-spec : {M : Type 1} → statement M
 edit-i64-spec =

@@ -1,12 +1,11 @@
 -- `rle_range::edit_u64` meets its contract: the old list loaded, its range replaced, the block written. Assumes nothing.
-use Rattle.splice.proofs.OptionalEdits.{given-good, optional-fits, optional-good, optional-done}
 use native.Mathlib.Omega.{arith}
 use denote.Ref.{now}
 use mathlib.Core.Path.{refl}
 use Rattle.encoding.specs.Column.{trace}
 use Rattle.rle_decoder.specs.Word.{u64E}
 use Rattle.splice.specs.Kinds.{integer}
-use Rattle.splice.proofs.OptionalEdits.{optional-fits, optional-good, optional-done}
+use Rattle.splice.proofs.OptionalEdits.{given-good, optional-fits, optional-good, optional-done}
 use borrow.Author.Needs.{needs}
 use Rattle.rle_range.proofs.edit_u64.Statement.{statement}
 use Rattle.rle_range.proofs.edit_u64.Tie as tie
@@ -56,7 +55,7 @@ returns c =
     let load-u64 = c .before .before .before .before .before .before .before .before .before .before .before .before .before .before .before .before .before .before .load-u64 in
     let a = s .args in
     optional-done integer (trace u64E) (λ x. refl) 0 (now (a .new)) (now (a .new-present)) (now (a .values)) (now (a .present)) (s .pre .0) (s .pre .1)
-    (load-u64 .ensures) (end-in .ensures) (replace-u64 .ensures) (c .before .before .finish-u64 .ensures)
+    (load-u64 .ensures) (end-in .ensures) (replace-u64 .ensures) refl (c .before .before .finish-u64 .ensures)
 
 pub edit-u64-spec : {M : Type 1} → statement M
 edit-u64-spec =

@@ -1,6 +1,6 @@
 -- `splice::is_served` meets its contract: one law for each kind. Assumes nothing.
 use mathlib.Core.Path.{_∙_}
-use Rattle.splice.proofs.Planning.{serves-actor, serves-integer, serves-delta, serves-boolean}
+use Rattle.splice.proofs.Planning.{serves-actor, serves-integer, serves-delta, serves-boolean, serves-text}
 use borrow.Author.Needs.{needs}
 use Rattle.splice.proofs.is_served.Statement.{statement}
 use Rattle.splice.proofs.is_served.Tie as tie
@@ -20,6 +20,9 @@ enum-told-2 c = search needs
 enum-told-3 : tie.Need-enum-told-3
 enum-told-3 c = search needs
 
+enum-told-4 : tie.Need-enum-told-4
+enum-told-4 c = search needs
+
 returns : tie.Need-returns
 returns c =
     serves-actor (c .before .before .before .before .before .args .kind) (c .before .before .before .before .before .args .spec) (c .before .before .before .as-u8 .ensures ∙ c .before .before .before .before .col-type .ensures) (c .before .enum-told .given .1) (c .if1 .taken)
@@ -36,6 +39,10 @@ returns-4 : tie.Need-returns-4
 returns-4 c =
     serves-boolean (c .before .before .before .before .args .kind) (c .before .before .before .before .args .spec) (c .before .before .as-u8 .ensures ∙ c .before .before .before .col-type .ensures) (c .enum-told3 .given .1)
 
+returns-5 : tie.Need-returns-5
+returns-5 c =
+    serves-text (c .before .before .before .before .args .kind) (c .before .before .before .before .args .spec) (c .before .before .as-u8 .ensures ∙ c .before .before .before .col-type .ensures) (c .enum-told4 .given .1)
+
 pub is-served-spec : {M : Type 1} → statement M
 is-served-spec =
     tie.close
@@ -45,7 +52,9 @@ is-served-spec =
     enum-told
     enum-told-2
     enum-told-3
+    enum-told-4
     returns
     returns-2
     returns-3
-    returns-4)
+    returns-4
+    returns-5)

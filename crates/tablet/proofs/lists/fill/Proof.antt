@@ -6,10 +6,11 @@ use Rattle.tablet.proofs.lists.fill.Statement.{statement}
 use Rattle.tablet.proofs.lists.fill.Tie as tie
 
 abbrev Inv-loop : tie.InvT-loop
-Inv-loop s kind values₀ present₀ n₀ at₀ turns₀ values present n at turns = (length values ≡ length values₀) × (length present ≡ length present₀)
+Inv-loop s kind names₀ values₀ present₀ n₀ at₀ turns₀ names values present n at turns =
+    (length names ≡ length names₀) × (length values ≡ length values₀) × (length present ≡ length present₀)
 
 abbrev μ-loop : tie.MeasureT-loop
-μ-loop s kind values₀ present₀ n₀ at₀ turns₀ values present n at turns = turns
+μ-loop s kind names₀ values₀ present₀ n₀ at₀ turns₀ names values present n at turns = turns
 
 loop-holds : tie.Need-loop-holds Inv-loop μ-loop
 loop-holds c = search needs
@@ -17,11 +18,8 @@ loop-holds c = search needs
 reading-end-requires : tie.Need-reading-end-requires Inv-loop μ-loop
 reading-end-requires c κs = search needs
 
-between-requires : tie.Need-between-requires Inv-loop μ-loop
-between-requires c κs = search needs
-
-read-item-requires : tie.Need-read-item-requires Inv-loop μ-loop
-read-item-requires c κs = search needs
+item-at-requires : tie.Need-item-at-requires Inv-loop μ-loop
+item-at-requires c κs = search needs
 
 wrong-requires : tie.Need-wrong-requires Inv-loop μ-loop
 wrong-requires c κs = search needs
@@ -32,6 +30,9 @@ same-length c = search needs
 same-length-2 : tie.Need-same-length-2 Inv-loop μ-loop
 same-length-2 c = search needs
 
+same-length-3 : tie.Need-same-length-3 Inv-loop μ-loop
+same-length-3 c = search needs
+
 returns : tie.Need-returns Inv-loop μ-loop
 returns c = search needs
 
@@ -41,11 +42,14 @@ repeat-requires c κs = search needs
 wrong-requires-2 : tie.Need-wrong-requires-2 Inv-loop μ-loop
 wrong-requires-2 c κs = search needs
 
-same-length-3 : tie.Need-same-length-3 Inv-loop μ-loop
-same-length-3 c = search needs
-
 same-length-4 : tie.Need-same-length-4 Inv-loop μ-loop
 same-length-4 c = search needs
+
+same-length-5 : tie.Need-same-length-5 Inv-loop μ-loop
+same-length-5 c = search needs
+
+same-length-6 : tie.Need-same-length-6 Inv-loop μ-loop
+same-length-6 c = search needs
 
 returns-2 : tie.Need-returns-2 Inv-loop μ-loop
 returns-2 c = search needs
@@ -62,20 +66,26 @@ loop-less c = search needs
 loop-again : tie.Need-loop-again Inv-loop μ-loop
 loop-again c = search needs
 
-same-length-5 : tie.Need-same-length-5 Inv-loop μ-loop
-same-length-5 c = search needs
-
-same-length-6 : tie.Need-same-length-6 Inv-loop μ-loop
-same-length-6 c = search needs
-
-returns-3 : tie.Need-returns-3 Inv-loop μ-loop
-returns-3 c = search needs
-
 same-length-7 : tie.Need-same-length-7 Inv-loop μ-loop
 same-length-7 c = search needs
 
 same-length-8 : tie.Need-same-length-8 Inv-loop μ-loop
 same-length-8 c = search needs
+
+same-length-9 : tie.Need-same-length-9 Inv-loop μ-loop
+same-length-9 c = search needs
+
+returns-3 : tie.Need-returns-3 Inv-loop μ-loop
+returns-3 c = search needs
+
+same-length-10 : tie.Need-same-length-10 Inv-loop μ-loop
+same-length-10 c = search needs
+
+same-length-11 : tie.Need-same-length-11 Inv-loop μ-loop
+same-length-11 c = search needs
+
+same-length-12 : tie.Need-same-length-12 Inv-loop μ-loop
+same-length-12 c = search needs
 
 returns-4 : tie.Need-returns-4 Inv-loop μ-loop
 returns-4 c = search needs
@@ -88,24 +98,27 @@ fill-spec =
     μ-loop
     loop-holds
     reading-end-requires
-    between-requires
-    read-item-requires
+    item-at-requires
     wrong-requires
     same-length
     same-length-2
+    same-length-3
     returns
     repeat-requires
     wrong-requires-2
-    same-length-3
     same-length-4
+    same-length-5
+    same-length-6
     returns-2
     after-requires
     sub-turns
     loop-less
     loop-again
-    same-length-5
-    same-length-6
-    returns-3
     same-length-7
     same-length-8
+    same-length-9
+    returns-3
+    same-length-10
+    same-length-11
+    same-length-12
     returns-4)

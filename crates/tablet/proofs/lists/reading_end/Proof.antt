@@ -6,10 +6,10 @@ use Rattle.tablet.proofs.lists.reading_end.Statement.{statement}
 use Rattle.tablet.proofs.lists.reading_end.Tie as tie
 
 abbrev Inv-loop : tie.InvT-loop
-Inv-loop s at i₀ i = Unit {0}
+Inv-loop s at i₀ open₀ i «open» = Unit {0}
 
 abbrev μ-loop : tie.MeasureT-loop
-μ-loop s at i₀ i = length s - i
+μ-loop s at i₀ open₀ i «open» = length s - i
 
 loop-holds : tie.Need-loop-holds Inv-loop μ-loop
 loop-holds c = search needs
@@ -25,6 +25,9 @@ shared-slice-read-if2 c = search needs
 
 returns-2 : tie.Need-returns-2 Inv-loop μ-loop
 returns-2 c = search needs
+
+shared-slice-read-if4 : tie.Need-shared-slice-read-if4 Inv-loop μ-loop
+shared-slice-read-if4 c = search needs
 
 add-i : tie.Need-add-i Inv-loop μ-loop
 add-i c = search needs
@@ -49,6 +52,7 @@ reading-end-spec =
     returns
     shared-slice-read-if2
     returns-2
+    shared-slice-read-if4
     add-i
     loop-less
     loop-again

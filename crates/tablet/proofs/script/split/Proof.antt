@@ -7,10 +7,10 @@ use Rattle.tablet.proofs.script.split.Statement.{statement}
 use Rattle.tablet.proofs.script.split.Tie as tie
 
 abbrev Inv-loop : tie.InvT-loop
-Inv-loop line out₀ n₀ i₀ out n i = length out ≡ length out₀
+Inv-loop line out₀ n₀ i₀ open₀ out n i «open» = length out ≡ length out₀
 
 abbrev μ-loop : tie.MeasureT-loop
-μ-loop line out₀ n₀ i₀ out n i = length line + 1 - i
+μ-loop line out₀ n₀ i₀ open₀ out n i «open» = length line + 1 - i
 
 returns : tie.Need-returns Inv-loop μ-loop
 returns c = search needs
@@ -20,6 +20,9 @@ loop-holds c = search needs
 
 put-byte-requires : tie.Need-put-byte-requires Inv-loop μ-loop
 put-byte-requires c κs = search needs
+
+byte-at-requires : tie.Need-byte-at-requires Inv-loop μ-loop
+byte-at-requires c κs = search needs
 
 add-i : tie.Need-add-i Inv-loop μ-loop
 add-i c = search needs
@@ -45,6 +48,7 @@ split-spec =
     returns
     loop-holds
     put-byte-requires
+    byte-at-requires
     add-i
     loop-less
     loop-again

@@ -1,0 +1,209 @@
+-- Looking ahead over a list that is walked finds the stretches of the writer, over any element: laws for the start, a turn and the end of each loop
+-- that looks for a stretch's end. Assumes nothing.
+use Prim.Native.Nat.{ℕ, zero, suc, _+_, _≤_, _<_}
+use mathlib.Core.Path.{_≡_, refl, sym, _∙_, ap, subst}
+use mathlib.Core.List.{List, [], _∷_, _++_, map, append-assoc}
+use mathlib.Core.Option.{Option, none, some}
+use mathlib.Core.Bool.{Bool, true, false, cond}
+use native.Mathlib.Omega.{arith}
+use lib.ListN.{length, take, drop, replicate, length-append, length-replicate, replicate-append-replicate}
+use lib.Seq.{take-at, drop-at}
+use Rattle.encoding.specs.Stretches.{Stretch, literalOf, joinNone, joinSome, stretches}
+use Rattle.encoding.specs.Ahead.{repeats, joinAll, Off, Closed, Apart}
+use Rattle.encoding.specs.declared.StretchEnd.the-variants as stretch
+use Rattle.encoding.proofs.Looking.{closed-twice, repeats-end, literal-end, apart-more}
+use Rattle.text_encoder.specs.Cuts.{somes, firstOf, literalIn, CutOf, RepeatOf}
+
+-- ---- one reading some times in front of a list
+
+module _ {A : Type 0} where
+  same-length : (m : ℕ) (x : A) (ys : List A) → length (replicate m x ++ ys) ≡ m + length ys
+  same-length m x ys = length-append (replicate m x) ys ∙ ap (λ (k : ℕ). k + length ys) (length-replicate m x)
+
+  same-behind : (m : ℕ) (x : A) (xs ys : List A) → xs ≡ replicate m x ++ ys → ys ≡ drop m xs
+  same-behind m x xs ys e = sym (ap (drop m) e ∙ drop-at (replicate m x) ys m (length-replicate m x))
+
+  same-within : (m : ℕ) (x : A) (xs ys : List A) → xs ≡ replicate m x ++ ys → m + length ys ≡ length xs
+  same-within m x xs ys e = sym (ap length e ∙ same-length m x ys)
+
+  -- a piece of which the reading is the same
+  pub same-more : (m n : ℕ) (x y : A) (xs ys zs : List A) → xs ≡ replicate m x ++ (replicate n y ++ ys) → y ≡ x → zs ≡ ys
+      → xs ≡ replicate (m + n) x ++ zs
+  same-more m n x y xs ys zs e f g =
+      e ∙ ap (λ (z : A). replicate m x ++ (replicate n z ++ ys)) f
+      ∙ ap (λ (l : List A). replicate m x ++ (replicate n x ++ l)) (sym g)
+      ∙ sym (append-assoc (replicate m x) (replicate n x) zs)
+      ∙ ap (λ (l : List A). l ++ zs) (replicate-append-replicate m n x)
+
+  pub same-counts : (m n : ℕ) (x y : A) (xs ys : List A) → xs ≡ replicate m x ++ (replicate n y ++ ys) → m + n ≤ length xs
+  same-counts m n x y xs ys e = omega (arith, same-within m x xs (replicate n y ++ ys) e, same-length n y ys)
+
+  -- what is behind a piece is shorter
+  pub piece-less : (n : ℕ) (y : A) (ys zs : List A) → zs ≡ ys → 0 < n → length zs < length (replicate n y ++ ys)
+  piece-less n y ys zs e l = omega (arith, ap length e, same-length n y ys)
+
+  -- a piece is its first reading and what is behind it
+  pub piece-first : (n : ℕ) (x y : A) (ys : List A) → 0 < n → y ≡ x → replicate n y ++ ys ≡ x ∷ drop 1 (replicate n y ++ ys)
+  piece-first zero x y ys l e = absurd (omega arith)
+  piece-first (suc n) x y ys l e = ap (λ (z : A). z ∷ (replicate n y ++ ys)) e
+
+-- ---- absent readings
+
+module _ {A : Type 0} (same : A → A → Bool) where
+  -- the list does not begin with an absent reading
+  abbrev pub Begun : List (Option A) → Type 0
+  Begun [] = Unit {0}
+  Begun (none ∷ xs) = ⊥
+  Begun (some a ∷ xs) = Unit {0}
+
+  before-some : (a : A) (r : List (Stretch A)) → joinNone (joinSome same a r) ≡ Stretch.absent 1 ∷ joinSome same a r
+  unfolding joinNone joinSome
+  before-some a [] = refl
+  before-some a (Stretch.absent n ∷ r) = refl
+  before-some a (Stretch.repeat n b ∷ r) = go (same a b)
+    where
+      go : (t : Bool) → joinNone (cond t (Stretch.repeat (suc n) b ∷ r) (Stretch.literal a [] ∷ Stretch.repeat n b ∷ r))
+          ≡ Stretch.absent 1 ∷ cond t (Stretch.repeat (suc n) b ∷ r) (Stretch.literal a [] ∷ Stretch.repeat n b ∷ r)
+      go true = refl
+      go false = refl
+  before-some a (Stretch.literal b bs ∷ r) = go (same a b)
+    where
+      go : (t : Bool) → joinNone (cond t (Stretch.repeat 2 b ∷ literalOf bs r) (Stretch.literal a (b ∷ bs) ∷ r))
+          ≡ Stretch.absent 1 ∷ cond t (Stretch.repeat 2 b ∷ literalOf bs r) (Stretch.literal a (b ∷ bs) ∷ r)
+      go true = refl
+      go false = refl
+
+  absent-cut : (n : ℕ) (ys : List (Option A)) → Begun ys → stretches same (replicate (suc n) none ++ ys) ≡ Stretch.absent (suc n) ∷ stretches same ys
+  unfolding joinNone stretches
+  absent-cut zero [] h = refl
+  absent-cut zero (none ∷ ys) h = absurd h
+  absent-cut zero (some a ∷ ys) h = before-some a (stretches same ys)
+  absent-cut (suc n) ys h = ap joinNone (absent-cut n ys h)
+
+  pub absent-stretch : (d : A) (m : ℕ) (xs ys : List (Option A)) → 0 < m → xs ≡ replicate m none ++ ys → Begun ys
+      → CutOf same d xs (stretch.Absent m) ys
+  absent-stretch d zero xs ys l e h = absurd (omega arith)
+  absent-stretch d (suc n) xs ys l e h =
+      let z = same-within (suc n) none xs ys e in
+      record {
+        later = l;
+        within = omega arith;
+        whole = tt;
+        behind = same-behind (suc n) none xs ys e;
+        cuts = ap (stretches same) e ∙ absent-cut n ys h;
+      }
+
+  -- ---- equal values
+
+  repeats-front : (m : ℕ) (a : A) (r : List (Stretch A)) → joinSome same a (repeats same m a r) ≡ repeats same m a (joinSome same a r)
+  unfolding repeats
+  repeats-front zero a r = refl
+  repeats-front (suc m) a r = repeats-front m a (joinSome same a r)
+
+  repeats-cut : (m : ℕ) (a : A) (ys : List (Option A)) → stretches same (replicate m (some a) ++ ys) ≡ repeats same m a (stretches same ys)
+  unfolding repeats stretches
+  repeats-cut zero a ys = refl
+  repeats-cut (suc m) a ys = ap (joinSome same a) (repeats-cut m a ys) ∙ repeats-front m a (stretches same ys)
+
+  pub repeat-of : (a : A) (m : ℕ) (xs ys : List (Option A)) → 0 < m → xs ≡ replicate m (some a) ++ ys → Off same a (stretches same ys)
+      → RepeatOf same a xs m ys
+  repeat-of a m xs ys l e o =
+      let z = same-within m (some a) xs ys e in
+      record {
+        later = l;
+        within = omega arith;
+        behind = same-behind m (some a) xs ys e;
+        cuts = ap (stretches same) e ∙ repeats-cut m a ys;
+        off = o;
+      }
+
+  -- one value alone
+  pub lone : (a : A) (k : ℕ) (xs ys : List (Option A)) → RepeatOf same a xs k ys → k < 2 → Off same a (stretches same (drop 1 xs))
+  lone a k xs ys h l =
+      let z : k ≡ 1 = omega (arith, h .later) in
+      subst (λ (l : List (Option A)). Off same a (stretches same l)) (h .behind ∙ ap (λ (j : ℕ). drop j xs) z) (h .off)
+
+  module _ (same-eq : (a b : A) → same a b ≡ true → a ≡ b) (same-self : (a : A) → same a a ≡ true) where
+    pub repeat-stretch : (d a : A) (k : ℕ) (xs ys zs : List (Option A)) → RepeatOf same a xs k ys → 2 ≤ k → xs ≡ some a ∷ zs
+        → CutOf same d xs (stretch.Repeat k) ys
+    repeat-stretch d a k xs ys zs h l e =
+        record {
+          later = h .later;
+          within = h .within;
+          whole = ap (λ (l : List (Option A)). length (somes (take 1 l))) e;
+          behind = h .behind;
+          cuts = h .cuts ∙ repeats-end same same-eq same-self k a (stretches same ys) l (h .off)
+              ∙ ap (λ (b : A). Stretch.repeat k b ∷ stretches same ys) (sym (ap (firstOf d) e));
+        }
+
+    pub closed-pair : (a : A) (ys : List (Option A)) → Closed (stretches same (some a ∷ some a ∷ ys))
+    unfolding stretches
+    closed-pair a ys = closed-twice same same-eq same-self a (stretches same ys)
+
+  -- ---- values that equal no neighbour
+
+  -- so far: a value in front of xs, and behind it those before ys
+  pub record Unlike (xs ys : List (Option A)) (k : ℕ) : Type 0 where
+    pub values : List A
+    pub count : k ≡ suc (length values)
+    pub split : xs ≡ map some values ++ ys
+    pub apart : (a : A) → Off same a (stretches same xs) → Apart same a values (stretches same ys)
+
+  pub unlike-start : (xs : List (Option A)) → Unlike xs xs 1
+  unlike-start xs = record { values = []; count = refl; split = refl; apart = λ a o. o }
+
+  map-length : (l : List A) → length (map some l) ≡ length l
+  map-length [] = refl
+  map-length (a ∷ l) = ap suc (map-length l)
+
+  pub unlike-counts : (xs ys : List (Option A)) (k : ℕ) → Unlike xs ys k → k + length ys ≡ 1 + length xs
+  unlike-counts xs ys k h =
+      omega (arith, h .count, ap length (h .split), length-append (map some (h .values)) ys, map-length (h .values))
+
+  somes-back : (l : List A) → somes (map some l) ≡ l
+  somes-back [] = refl
+  somes-back (a ∷ l) = ap (λ (m : List A). a ∷ m) (somes-back l)
+
+  joined : (l : List A) (ys : List (Option A)) → stretches same (map some l ++ ys) ≡ joinAll same l (stretches same ys)
+  unfolding stretches joinAll
+  joined [] ys = refl
+  joined (a ∷ l) ys = ap (joinSome same a) (joined l ys)
+
+  snoc : (l : List A) (b : A) (ys : List (Option A)) → map some l ++ (some b ∷ ys) ≡ map some (l ++ (b ∷ [])) ++ ys
+  snoc [] b ys = refl
+  snoc (a ∷ l) b ys = ap (λ (m : List (Option A)). some a ∷ m) (snoc l b ys)
+
+  module _ (same-eq : (a b : A) → same a b ≡ true → a ≡ b) (same-self : (a : A) → same a a ≡ true) where
+    pub unlike-more : (b : A) (xs ys zs : List (Option A)) (k : ℕ) → Unlike xs ys k → ys ≡ some b ∷ zs → Off same b (stretches same (drop 1 ys))
+        → Unlike xs zs (k + 1)
+    unfolding stretches
+    unlike-more b xs ys zs k h e o =
+        let n = length-append (h .values) (b ∷ []) in
+        record {
+          values = h .values ++ (b ∷ []);
+          count = omega (arith, h .count);
+          split = h .split ∙ ap (λ (l : List (Option A)). map some (h .values) ++ l) e ∙ snoc (h .values) b zs;
+          apart = λ a f.
+              apart-more same same-eq same-self a (h .values) b (stretches same zs)
+              (subst (λ (l : List (Option A)). Apart same a (h .values) (stretches same l)) e (h .apart a f))
+              (subst (λ (l : List (Option A)). Off same b (stretches same (drop 1 l))) e o);
+        }
+
+    pub literal-stretch : (d a : A) (us xs ys : List (Option A)) (k : ℕ) → us ≡ some a ∷ xs → Off same a (stretches same (drop 1 us))
+        → Unlike xs ys k → Closed (stretches same ys) → CutOf same d us (stretch.Literal k) ys
+    unfolding joinAll
+    literal-stretch d a us xs ys k e o h c =
+        let l : List A = a ∷ h .values in
+        let s : us ≡ map some l ++ ys = e ∙ ap (λ (m : List (Option A)). some a ∷ m) (h .split) in
+        let n : length (map some l) ≡ k = map-length l ∙ sym (h .count) in
+        let t : somes (take k us) ≡ l = ap (λ (m : List (Option A)). somes (take k m)) s ∙ ap somes (take-at (map some l) ys k n) ∙ somes-back l in
+        let f : Off same a (stretches same xs) = subst (λ (m : List (Option A)). Off same a (stretches same (drop 1 m))) e o in
+        record {
+          later = omega (arith, h .count);
+          within = omega (arith, ap length s, length-append (map some l) ys);
+          whole = ap length t ∙ sym (h .count);
+          behind = sym (ap (drop k) s ∙ drop-at (map some l) ys k n);
+          cuts = ap (stretches same) s ∙ joined l ys
+              ∙ literal-end same same-eq same-self a (h .values) (stretches same ys) (h .apart a f) c
+              ∙ ap (λ (m : List A). literalIn m ∷ stretches same ys) (sym t);
+        }

@@ -1,0 +1,172 @@
+-- The bytes of names as the loops over a walk go through them: reading by reading, stretch by stretch, and a stretch's run in its two parts.
+-- Assumes nothing.
+use Prim.Native.Nat.{ℕ, zero, suc, _+_, _-_, _^_, _≤_, _<_}
+use mathlib.Core.Path.{_≡_, refl, sym, _∙_, ap, subst}
+use mathlib.Core.List.{List, [], _∷_, _++_}
+use mathlib.Core.Option.{Option, none, some}
+use mathlib.Core.Bool.{true, false}
+use native.Mathlib.Omega.{arith}
+use native.Mathlib.Numerals.{add-one}
+use lib.IntN.{ℤ, pos, negsuc}
+use lib.ListN.{length, getD, set, take, drop, replicate, length-append, length-drop, drop-of-length-le}
+use lib.Seq.{sets, drop-cons, getD-take, getD-drop, length-take-le}
+use lib.Signed.{mag}
+use mir.Syntax.{w64}
+use mir.Val.{toZ, ofZ}
+use mir.ValLaws.{toZ-ofZ}
+use Rattle.leb128.specs.Write.{u64Bytes, i64Bytes}
+use Rattle.encoding.specs.Stretches.{stretches}
+use Rattle.encoding.specs.Writer.{allBytes, stretchBytes, stretchesBytes, anyPresent, columnBytes}
+use Rattle.encoding.specs.Ahead.{endOf, PutAt}
+use Rattle.encoding.specs.Flags.{minus}
+use Rattle.encoding.specs.declared.StretchEnd.{StretchEnd}
+use Rattle.encoding.specs.declared.StretchEnd.the-variants as stretch
+use Rattle.encoding.proofs.StretchParts.{Parts}
+use Rattle.text.specs.Text.{bytesAt, textBytes, sameBytes, textE}
+use Rattle.text_encoder.specs.Cuts.{somes, literalIn, stretchIn, PresentIn, CutOf}
+use Rattle.text_encoder.specs.Walks.{bytesOf}
+
+-- ---- the n bytes from i on
+
+pub bytes-length : (s : List ℕ) (i n : ℕ) → i + n ≤ length s → length (bytesAt s i n) ≡ n
+bytes-length s i n h = length-take-le n (drop i s) (omega (arith, length-drop i s))
+
+-- a name: its length number, and its bytes
+pub name-parts : (s : List ℕ) (i n : ℕ) → i + n ≤ length s → Parts (u64Bytes n) (bytesAt s i n) (textBytes (bytesAt s i n))
+unfolding textBytes
+name-parts s i n h = record { whole = ap (λ (k : ℕ). u64Bytes k ++ bytesAt s i n) (sym (bytes-length s i n h)) }
+
+-- put one by one: what is owed at the position behind k of them
+pub store-start : (out : List ℕ) (at : ℕ) (w : List ℕ) → sets out at w ≡ sets out (at + 0) (drop 0 w)
+store-start out at w = let z : at ≡ at + 0 = omega arith in ap (λ (k : ℕ). sets out k w) z
+
+pub store-next : (out : List ℕ) (at k : ℕ) (s : List ℕ) (i n : ℕ) → i + n ≤ length s → k < n
+    → sets out (at + k) (drop k (bytesAt s i n)) ≡ sets (set out (at + k) (getD s (i + k) 0)) (at + (k + 1)) (drop (k + 1) (bytesAt s i n))
+store-next out at k s i n h l =
+    let w = bytesAt s i n in
+    let e : drop k w ≡ getD w k 0 ∷ drop (suc k) w = drop-cons w k 0 (omega (arith, bytes-length s i n h)) in
+    let g : getD w k 0 ≡ getD s (i + k) 0 = getD-take n (drop i s) k 0 l ∙ getD-drop i s k 0 in
+    let z : suc (at + k) ≡ at + (k + 1) = omega arith in
+    ap (λ (x : List ℕ). sets out (at + k) x) (e ∙ ap (λ (b : ℕ). b ∷ drop (suc k) w) g)
+    ∙ ap (λ (j : ℕ). sets (set out (at + k) (getD s (i + k) 0)) j (drop (suc k) w)) z
+    ∙ ap (λ (j : ℕ). sets (set out (at + k) (getD s (i + k) 0)) (at + (k + 1)) (drop j w)) (sym (add-one k))
+
+pub store-end : (out : List ℕ) (at k : ℕ) (s : List ℕ) (i n : ℕ) → i + n ≤ length s → n ≤ k → sets out (at + k) (drop k (bytesAt s i n)) ≡ out
+store-end out at k s i n h l =
+    ap (λ (x : List ℕ). sets out (at + k) x) (drop-of-length-le (bytesAt s i n) {i = k} (omega (arith, bytes-length s i n h)))
+
+pub put-nothing : (out : List ℕ) (at : ℕ) → PutAt out out at at []
+put-nothing out at = record { after = omega arith; bytes = refl }
+
+-- ---- readings one by one
+
+one-bytes : (x : Option (List ℕ)) (xs : List (Option (List ℕ))) → allBytes textE (somes (x ∷ xs)) ≡ bytesOf x ++ allBytes textE (somes xs)
+unfolding allBytes
+one-bytes none xs = refl
+one-bytes (some v) xs = refl
+
+module _ {k : ℕ} {xs ys : List (Option (List ℕ))} {x : Option (List ℕ)} where
+  pub names-bytes : 0 < k → xs ≡ x ∷ ys → allBytes textE (somes (take k xs)) ≡ bytesOf x ++ allBytes textE (somes (take (k - 1) ys))
+  names-bytes l e = ap (λ (zs : List (Option (List ℕ))). allBytes textE (somes (take k zs))) e ∙ go k l
+    where
+      go : (m : ℕ) → 0 < m → allBytes textE (somes (take m (x ∷ ys))) ≡ bytesOf x ++ allBytes textE (somes (take (m - 1) ys))
+      go zero l = absurd (omega arith)
+      go (suc m) l =
+          let z : m ≡ suc m - 1 = omega arith in
+          one-bytes x (take m ys) ∙ ap (λ (j : ℕ). bytesOf x ++ allBytes textE (somes (take j ys))) z
+
+  pub names-length : 0 < k → xs ≡ x ∷ ys
+      → length (allBytes textE (somes (take k xs))) ≡ length (bytesOf x) + length (allBytes textE (somes (take (k - 1) ys)))
+  names-length l e = ap length (names-bytes l e) ∙ length-append (bytesOf x) (allBytes textE (somes (take (k - 1) ys)))
+
+pub names-over : {k : ℕ} (xs : List (Option (List ℕ))) → k ≤ 0 → allBytes textE (somes (take k xs)) ≡ []
+unfolding allBytes
+names-over {k} xs h = let z : k ≡ 0 = omega arith in ap (λ (j : ℕ). allBytes textE (somes (take j xs))) z
+
+-- ---- a stretch's run in its two parts: its count, as its bits read back, and what the count announces
+
+module _ {k : ℕ} {x : StretchEnd} (xs : List (Option (List ℕ))) where
+  pub absent-in : x ≡ stretch.Absent k → Parts (i64Bytes (pos 0)) (u64Bytes k) (stretchBytes textE (stretchIn [] xs x))
+  unfolding stretchBytes
+  absent-in f = record { whole = sym (ap (λ (y : StretchEnd). stretchBytes textE (stretchIn [] xs y)) f) }
+
+  pub repeat-in : {h : Option (List ℕ)} {ys : List (Option (List ℕ))} {r : ℤ} → x ≡ stretch.Repeat k → xs ≡ h ∷ ys → PresentIn xs x
+      → r ≡ pos k → mag r < 2 ^ 63 → Parts (i64Bytes (toZ w64 (ofZ w64 r))) (bytesOf h) (stretchBytes textE (stretchIn [] xs x))
+  unfolding stretchBytes
+  repeat-in {h = h} {ys = ys} {r = r} f e p q s =
+      let z = toZ-ofZ w64 r (record { sfits = s }) in
+      let u : PresentIn (h ∷ ys) (stretch.Repeat k) =
+      subst (λ (zs : List (Option (List ℕ))). PresentIn zs (stretch.Repeat k)) e (subst (PresentIn xs) f p) in
+      record {
+        whole =
+            ap (λ (y : ℤ). i64Bytes y ++ bytesOf h) (z ∙ q)
+            ∙ go h u
+            ∙ ap (λ (zs : List (Option (List ℕ))). stretchBytes textE (stretchIn [] zs (stretch.Repeat k))) (sym e)
+            ∙ ap (λ (y : StretchEnd). stretchBytes textE (stretchIn [] xs y)) (sym f);
+      }
+    where
+      go : (g : Option (List ℕ)) → PresentIn (g ∷ ys) (stretch.Repeat k)
+          → i64Bytes (pos k) ++ bytesOf g ≡ stretchBytes textE (stretchIn [] (g ∷ ys) (stretch.Repeat k))
+      go none u = absurd (omega (arith, u))
+      go (some v) u = refl
+
+  pub literal-in : {r : ℤ} → x ≡ stretch.Literal k → PresentIn xs x → 0 < endOf x → r ≡ minus k → mag r < 2 ^ 63
+      → Parts (i64Bytes (toZ w64 (ofZ w64 r))) (allBytes textE (somes (take k xs))) (stretchBytes textE (stretchIn [] xs x))
+  unfolding stretchBytes minus
+  literal-in {r = r} f p l q s =
+      let z = toZ-ofZ w64 r (record { sfits = s }) in
+      let j = ap endOf f in
+      record {
+        whole =
+            ap (λ (y : ℤ). i64Bytes y ++ allBytes textE (somes (take k xs))) (z ∙ q)
+            ∙ go (somes (take k xs)) k (subst (PresentIn xs) f p) (omega arith)
+            ∙ ap (λ (y : StretchEnd). stretchBytes textE (stretchIn [] xs y)) (sym f);
+      }
+    where
+      go : (w : List (List ℕ)) (n : ℕ) → length w ≡ n → 0 < n → i64Bytes (minus n) ++ allBytes textE w ≡ stretchBytes textE (literalIn w)
+      go [] n e l = absurd (omega arith)
+      go (a ∷ w) zero e l = absurd (omega arith)
+      go (a ∷ w) (suc n) e l = let z : n ≡ length w = omega arith in ap (λ (m : ℕ). i64Bytes (negsuc m) ++ allBytes textE (a ∷ w)) z
+
+-- ---- stretch by stretch
+
+abbrev pub owing : List (Option (List ℕ)) → List ℕ
+owing xs = stretchesBytes textE (stretches sameBytes xs)
+
+module _ {xs ys : List (Option (List ℕ))} {r : StretchEnd} (h : CutOf sameBytes [] xs r ys) where
+  pub cut-bytes : owing xs ≡ stretchBytes textE (stretchIn [] xs r) ++ owing ys
+  unfolding stretchesBytes
+  cut-bytes = ap (stretchesBytes textE) (h .cuts)
+
+  pub cut-length : length (owing xs) ≡ length (stretchBytes textE (stretchIn [] xs r)) + length (owing ys)
+  cut-length = ap length cut-bytes ∙ length-append (stretchBytes textE (stretchIn [] xs r)) (owing ys)
+
+  pub cut-shorter : length ys < length xs
+  cut-shorter = omega (arith, ap length (h .behind), length-drop (endOf r) xs, h .later, h .within)
+
+pub cut-over : (xs : List (Option (List ℕ))) → xs ≡ [] → owing xs ≡ []
+unfolding stretchesBytes stretches
+cut-over xs e = ap owing e
+
+-- ---- the column: nothing where no reading is present
+
+pub any-behind : {A : Type 0} (m : ℕ) (ys : List (Option A)) → anyPresent (replicate m none ++ ys) ≡ anyPresent ys
+unfolding anyPresent
+any-behind zero ys = refl
+any-behind (suc m) ys = any-behind m ys
+
+pub any-first : {A : Type 0} {xs : List (Option A)} {a : A} {ys : List (Option A)} → xs ≡ some a ∷ ys → true ≡ anyPresent xs
+unfolding anyPresent
+any-first e = sym (ap anyPresent e)
+
+pub any-over : {A : Type 0} {xs : List (Option A)} → xs ≡ [] → false ≡ anyPresent xs
+unfolding anyPresent
+any-over e = sym (ap anyPresent e)
+
+pub column-some : (xs : List (Option (List ℕ))) → anyPresent xs ≡ true → columnBytes textE xs ≡ owing xs
+unfolding columnBytes
+column-some xs e = rw e
+
+pub column-none : (xs : List (Option (List ℕ))) → anyPresent xs ≡ false → columnBytes textE xs ≡ []
+unfolding columnBytes
+column-none xs e = rw e

@@ -1,0 +1,4 @@
+pub mod Cases
+pub mod Cuts
+pub mod Edits
+pub mod Walks
