@@ -1,0 +1,11 @@
+pub mod Certain
+pub mod CertainSums
+pub mod Columns
+pub mod Due
+pub mod Examples
+pub mod Keeping
+pub mod Mended
+pub mod Mending
+pub mod Staying
+pub mod Sums
+pub mod Turns
