@@ -15,9 +15,6 @@ prefix-nil ys = record { rest = ys; split = refl }
 pub prefix-self : {R : Type 0} (xs : List R) → Prefix xs xs
 prefix-self xs = record { rest = []; split = sym (append-nil xs) }
 
-pub prefix-more : {R : Type 0} (xs ys : List R) → Prefix xs (xs ++ ys)
-prefix-more xs ys = record { rest = ys; split = refl }
-
 pub prefix-behind : {R : Type 0} (ws xs ys : List R) → Prefix xs ys → Prefix (ws ++ xs) (ws ++ ys)
 prefix-behind ws xs ys h = record { rest = h .rest; split = ap (λ l. ws ++ l) (h .split) ∙ sym (append-assoc ws xs (h .rest)) }
 

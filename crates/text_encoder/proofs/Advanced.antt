@@ -5,7 +5,7 @@ use mathlib.Core.Path.{_≡_, refl, sym, _∙_, ap}
 use mathlib.Core.List.{List, [], _∷_, _++_, map, append-assoc}
 use mathlib.Core.Option.{Option}
 use native.Mathlib.Omega.{arith}
-use lib.ListN.{length, take, drop, replicate, length-replicate}
+use lib.ListN.{length, take, drop, replicate, length-replicate, length-map}
 use lib.Seq.{take-append-add, drop-append-add}
 use Rattle.leb128.specs.Answer.{done}
 use Rattle.encoding.specs.Walk.{Ending, sound, fault, Trace, outcomeOf, outcome}
@@ -162,10 +162,6 @@ done-sound t m e = go (t .ending) e
     go sound e = refl
     go (fault number place) e = let z : _≡_ {A = ℕ} 0 1 = cc in absurd (omega arith)
 
-map-length : {A B : Type 0} (f : A → B) (xs : List A) → length (map f xs) ≡ length xs
-map-length f [] = refl
-map-length f (x ∷ xs) = ap suc (map-length f xs)
-
 abbrev fresh : TextCursor
 fresh = textCursor 0 0 0 sorts.Absent
 
@@ -182,7 +178,7 @@ module _ (s : List ℕ) (start end : ℕ) (a : start ≤ end) (b : outcome (trac
 
   pub opening-rest : Rest s opening
   opening-rest =
-      let n : length (oldFrom s fresh) ≡ length (trace textE s .readings) = ap length fresh-old ∙ map-length value (trace textE s .readings) in
+      let n : length (oldFrom s fresh) ≡ length (trace textE s .readings) = ap length fresh-old ∙ length-map (trace textE s .readings) value in
       record {
         sound = record {
           inside = omega arith;

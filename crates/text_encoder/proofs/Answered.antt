@@ -2,46 +2,33 @@
 use Prim.Native.Nat.{ℕ, _-_, _^_, _≤_, _<_}
 use mathlib.Core.Path.{_≡_, refl, sym, _∙_, ap, subst}
 use mathlib.Core.List.{List}
-use mathlib.Core.Option.{Option, none, some}
-use mathlib.Core.Bool.{Bool, true, false, cond, _&&_}
+use mathlib.Core.Option.{none, some}
+use mathlib.Core.Bool.{Bool, true, false, cond}
 use native.Mathlib.Omega.{arith}
-use lib.Dec.{leb, eqb}
+use lib.Dec.{leb}
 use lib.ListN.{length}
-use borrow.Author.Tests.{eqb-true, leb-true, leb-false, le-leb, lt-leb}
+use borrow.Author.Tests.{leb-true, leb-false, le-leb, lt-leb}
 use Rattle.leb128.specs.Answer.{Answer, done, refused, within}
 use Rattle.encoding.specs.Given.{sized, Encoded}
 use Rattle.encoding.specs.Limit.{limit}
 use Rattle.encoding.proofs.Putting.{encode-refused, encode-short}
-use Rattle.text.specs.Given.{nameList, badPair, badText, textGiven, pairsGiven, namesGiven, withinLimit, namesJudged}
+use Rattle.text.specs.Given.{namesGiven, withinLimit, namesJudged}
+use Rattle.text.proofs.Givens.{given-good}
 use Rattle.text_encoder.specs.Cases.{fit}
 use Rattle.text_encoder.specs.Walks.{Pairs}
+use Rattle.text_encoder.proofs.Pairs.{pairs-given}
 use Rattle.text_encoder.proofs.Fits.{is-fit, beyond-fit}
 
 -- ---- a list that was judged good
 
 module _ (b a l p : List ℕ) where
-  given-pairs : (g : ℕ) → namesGiven b a l p ≡ done g → Pairs b a l p
-  unfolding namesGiven
-  given-pairs g e = go (eqb (length a) (length l)) refl (eqb (length l) (length p)) refl (badPair (length b) 0 a l p) refl e
-    where
-      go : (t : Bool) → eqb (length a) (length l) ≡ t → (u : Bool) → eqb (length l) (length p) ≡ u
-          → (x : Option ℕ) → badPair (length b) 0 a l p ≡ x
-          → cond (t && u) (pairsGiven x (textGiven (badText 0 (nameList b a l p)))) (refused 8 0) ≡ done g → Pairs b a l p
-      go true h true k none q z =
-          let e = eqb-true (length a) (length l) h in
-          let f = eqb-true (length l) (length p) k in
-          record { even = sym e; flagged = omega arith; good = q }
-      go true h true k (some i) q z = let y : _≡_ {A = ℕ} 0 1 = cc in absurd (omega arith)
-      go true h false k x q z = let y : _≡_ {A = ℕ} 0 1 = cc in absurd (omega arith)
-      go false h u k x q z = let y : _≡_ {A = ℕ} 0 1 = cc in absurd (omega arith)
-
   pub judged-pairs : (m : ℕ) → namesJudged b a l p ≡ done m → (Pairs b a l p) × (length a ≤ limit)
   unfolding namesJudged
   judged-pairs m e = go (namesGiven b a l p) refl e
     where
       size : (g : ℕ) → namesGiven b a l p ≡ done g → (t : Bool) → leb (length a) limit ≡ t → cond t (done (length a)) (refused 5 0) ≡ done m
           → (Pairs b a l p) × (length a ≤ limit)
-      size g h true k z = (given-pairs g h, leb-true (length a) limit k)
+      size g h true k z = (pairs-given (given-good b a l p h), leb-true (length a) limit k)
       size g h false k z = let y : _≡_ {A = ℕ} 0 1 = cc in absurd (omega arith)
 
       go : (o : Answer) → namesGiven b a l p ≡ o → withinLimit (length a) o ≡ done m → (Pairs b a l p) × (length a ≤ limit)

@@ -6,7 +6,7 @@ use mathlib.Core.List.{List, [], _∷_, _++_, map, append-assoc}
 use mathlib.Core.Option.{Option, none, some}
 use mathlib.Core.Bool.{Bool, true, false, cond}
 use native.Mathlib.Omega.{arith}
-use lib.ListN.{length, take, drop, replicate, length-append, length-replicate, replicate-append-replicate}
+use lib.ListN.{length, take, drop, replicate, length-append, length-replicate, replicate-append-replicate, length-map}
 use lib.Seq.{take-at, drop-at}
 use Rattle.encoding.specs.Stretches.{Stretch, literalOf, joinNone, joinSome, stretches}
 use Rattle.encoding.specs.Ahead.{repeats, joinAll, Off, Closed, Apart}
@@ -152,13 +152,9 @@ module _ {A : Type 0} (same : A → A → Bool) where
   pub unlike-start : (xs : List (Option A)) → Unlike xs xs 1
   unlike-start xs = record { values = []; count = refl; split = refl; apart = λ a o. o }
 
-  map-length : (l : List A) → length (map some l) ≡ length l
-  map-length [] = refl
-  map-length (a ∷ l) = ap suc (map-length l)
-
   pub unlike-counts : (xs ys : List (Option A)) (k : ℕ) → Unlike xs ys k → k + length ys ≡ 1 + length xs
   unlike-counts xs ys k h =
-      omega (arith, h .count, ap length (h .split), length-append (map some (h .values)) ys, map-length (h .values))
+      omega (arith, h .count, ap length (h .split), length-append (map some (h .values)) ys, length-map (h .values) some)
 
   somes-back : (l : List A) → somes (map some l) ≡ l
   somes-back [] = refl
@@ -195,7 +191,7 @@ module _ {A : Type 0} (same : A → A → Bool) where
     literal-stretch d a us xs ys k e o h c =
         let l : List A = a ∷ h .values in
         let s : us ≡ map some l ++ ys = e ∙ ap (λ (m : List (Option A)). some a ∷ m) (h .split) in
-        let n : length (map some l) ≡ k = map-length l ∙ sym (h .count) in
+        let n : length (map some l) ≡ k = length-map l some ∙ sym (h .count) in
         let t : somes (take k us) ≡ l = ap (λ (m : List (Option A)). somes (take k m)) s ∙ ap somes (take-at (map some l) ys k n) ∙ somes-back l in
         let f : Off same a (stretches same xs) = subst (λ (m : List (Option A)). Off same a (stretches same (drop 1 m))) e o in
         record {

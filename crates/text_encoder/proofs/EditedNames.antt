@@ -1,31 +1,29 @@
 -- An edit of names that is ready: what its parts ask, and what its slots, output and answer come to. Assumes nothing.
-use Prim.Native.Nat.{ℕ, zero, suc, _+_, _-_, _^_, _≤_, _<_, max}
+use Prim.Native.Nat.{ℕ, _+_, _-_, _^_, _≤_, _<_, max}
 use mathlib.Core.Path.{_≡_, refl, sym, _∙_, ap}
-use mathlib.Core.List.{List, [], _∷_, _++_, map, append-assoc}
-use mathlib.Core.Option.{Option, none, some}
+use mathlib.Core.List.{List, _++_, map}
+use mathlib.Core.Option.{Option, none}
 use mathlib.Core.Bool.{Bool, true, false, cond, _&&_}
 use native.Mathlib.Omega.{arith}
-use lib.Dec.{ltb, leb, eqb}
-use lib.ListN.{length, getD, take, drop, replicate, length-map, length-append}
+use lib.Dec.{leb, eqb}
+use lib.ListN.{length, getD, take, drop, length-map, length-append}
 use borrow.Author.Tests.{leb-true, leb-false, le-leb, lt-leb, eqb-true, eq-eqb}
 use Rattle.leb128.specs.Answer.{Answer, done, refused}
-use Rattle.encoding.specs.Column.{Reading, absent, present, value, trace}
-use Rattle.encoding.specs.Given.{slotList}
+use Rattle.encoding.specs.Column.{value, trace}
 use Rattle.encoding.specs.Limit.{limit}
 use Rattle.encoding.specs.Slots.{flagOf}
 use Rattle.encoding.specs.Walk.{outcome}
-use Rattle.encoding.specs.Writer.{anyPresent, columnBytes}
+use Rattle.encoding.specs.Writer.{columnBytes}
 use Rattle.encoding.proofs.Back.{ListFits}
-use Rattle.utf8.specs.Utf8.{isUtf8}
-use Rattle.text.specs.Text.{bytesAt, isText, textE}
+use Rattle.text.specs.Text.{textE}
 use Rattle.text.specs.Name.{startOf, lengthOf}
-use Rattle.text.specs.Given.{nameList, badPair, badText, namesGiven}
+use Rattle.text.specs.Given.{nameList, namesGiven}
 use Rattle.text.proofs.Givens.{GivenGood, given-good, names-length, texts-fit}
 use Rattle.text.proofs.Texts.{text-readable}
 use Rattle.block_frame.specs.Columns.{newBlock}
 use Rattle.block_frame.specs.Frame.{frontOf, tailOf}
 use Rattle.block_frame.proofs.Blocks.{new-block}
-use Rattle.slots.specs.Splice.{spliced, inSlots}
+use Rattle.slots.specs.Splice.{inSlots}
 use Rattle.splice.specs.Edit.{Edited, stop, accepted, endIn, givenText, edited, answered, slotsLeft, outLeft, refusal}
 use Rattle.splice.specs.Contract.{flagIn, startsIn, lengthIn, TextSpliced}
 use Rattle.splice.specs.Kinds.{text}
@@ -35,11 +33,11 @@ use Rattle.splice.specs.declared.Spliced.{Spliced}
 use Rattle.splice.specs.Steps.{ready, stopped, planFor}
 use Rattle.splice.proofs.Counting.{values-outcome, text-counts}
 use Rattle.splice.proofs.Planning.{sound-is, in-order, plan-stops, plan-ready}
-use Rattle.splice.proofs.Editing.{newList, new-length, ready-edit, edit-answer, edit-output}
-use Rattle.text_encoder.specs.Walks.{Pairs}
+use Rattle.splice.proofs.Editing.{new-length, ready-edit, edit-answer, edit-output}
 use Rattle.text_encoder.specs.Cases.{fit}
 use Rattle.text_encoder.specs.Edits.{newNames, Spliceable, Refilled, Refillable}
 use Rattle.text_encoder.proofs.Fits.{beyond-fit}
+use Rattle.text_encoder.proofs.Pairs.{pairs-given}
 use Rattle.text_encoder.proofs.WrittenNames.{fits-append, fits-take, fits-drop, length-same, flag-same, readBack, written, held}
 
 -- ---- what was given
@@ -94,7 +92,7 @@ module _ {s : List ℕ} {position start : ℕ} {end : End} {at till old len : �
   pub names-spliceable : {e : ℕ} → e ≡ endIn end old → Spliceable column bytes newStarts newLens newFlags start e
   names-spliceable {e} h =
       rw h (record {
-        pairs = record { even = good .names .even; flagged = good .names .flagged; good = good .names .pairs };
+        pairs = pairs-given (good .names);
         sound = column-sound ∙ ap done (sym old-is);
         ordered = in-order old start end (R .not-below) (R .starts);
         within = omega (arith, R .within, old-is);

@@ -11,7 +11,7 @@ use Rattle.encoding.specs.Given.{given}
 use Rattle.encoding.proofs.Looking.{slot-drop, slot-past}
 use Rattle.text.specs.Text.{bytesAt}
 use Rattle.text.specs.Given.{cutNames, nameList}
-use Rattle.text.proofs.Givens.{cut-length, cut-at, pair-within, pairs-at}
+use Rattle.text.proofs.Givens.{GivenGood, cut-length, cut-at, pair-within, pairs-at}
 use Rattle.text_encoder.specs.declared.walk.Held.the-variants as held
 use Rattle.text_encoder.specs.Walks.{GivenAs, Pairs}
 
@@ -56,3 +56,7 @@ module _ (bytes starts lens flags : List ℕ) (i : ℕ) (p : Pairs bytes starts 
   names-past l =
       let k : length (cutNames bytes starts lens) ≡ length starts = cut-length bytes starts lens (p .even) in
       slot-past (cutNames bytes starts lens) flags i (omega arith)
+
+-- pairs of a list that was taken
+pub pairs-given : {bytes starts lens flags : List ℕ} → GivenGood bytes starts lens flags → Pairs bytes starts lens flags
+pairs-given h = record { even = h .even; flagged = h .flagged; good = h .pairs }

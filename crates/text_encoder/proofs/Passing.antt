@@ -1,11 +1,11 @@
 -- The list that is walked, as the loops over it see it: the reading that is held, and what comes behind it. Assumes nothing.
 use Prim.Native.Nat.{ℕ, zero, suc, _+_, _-_, _≤_, _<_}
-use mathlib.Core.Path.{_≡_, refl, _∙_, ap, subst}
+use mathlib.Core.Path.{_≡_, refl, _∙_, ap}
 use mathlib.Core.List.{List, [], _∷_, _++_}
 use mathlib.Core.Option.{Option}
-use mathlib.Core.Bool.{Bool, true, false}
+use mathlib.Core.Bool.{true}
 use native.Mathlib.Omega.{arith}
-use lib.ListN.{length, take, replicate, length-append, length-replicate}
+use lib.ListN.{length, take, replicate, length-append}
 use Rattle.leb128.specs.Write.{u64Bytes}
 use Rattle.encoding.specs.Writer.{allBytes, anyPresent}
 use Rattle.text.specs.Text.{bytesAt, textBytes, textE}
@@ -13,7 +13,8 @@ use Rattle.text_encoder.specs.declared.walk.Held.{Held}
 use Rattle.text_encoder.specs.declared.walk.Held.the-variants as held
 use Rattle.text_encoder.specs.declared.walk.Splicing.{Splicing}
 use Rattle.text_encoder.specs.Cuts.{somes}
-use Rattle.text_encoder.specs.Walks.{AbsentIf, heldIn, Within, bytesOf, sizeIn, restOf, listOf, Going}
+use Rattle.text_encoder.specs.Walks.{heldIn, Within, bytesOf, sizeIn, restOf, listOf, Going}
+use Rattle.text_encoder.proofs.Cutting.{piece-less}
 use Rattle.text_encoder.proofs.Runs.{bytes-length, names-length, any-behind, any-first}
 
 -- ---- what is written of the reading that is held
@@ -26,15 +27,6 @@ pub held-length : (column bytes : List ℕ) (h : Held) → Within column bytes h
 held-length column bytes held.Absent w = refl
 held-length column bytes (held.Old start len) w = text-length (bytesAt column start len) len (bytes-length column start len w)
 held-length column bytes (held.New start len) w = text-length (bytesAt bytes start len) len (bytes-length bytes start len w)
-
--- ---- is it absent
-
-module _ (h : Held) (b : Bool) (a : AbsentIf h b) where
-  pub absent-yes : b ≡ true → h ≡ held.Absent
-  absent-yes e = subst (AbsentIf h) e a
-
-  pub absent-no : b ≡ false → h ≡ held.Absent → ⊥
-  absent-no e = subst (AbsentIf h) e a
 
 -- ---- the reading that is held, and what comes behind
 
@@ -49,9 +41,7 @@ module _ (column bytes : List ℕ) (new : List (Option (List ℕ))) (s : Splicin
   walk-first l = first-of (s .times) (heldIn column bytes (s .held)) (restOf column new s) l
 
   pub walk-shorter : 0 < s .times → length (restOf column new s) < length (listOf column bytes new s)
-  walk-shorter l =
-      let x = heldIn column bytes (s .held) in
-      omega (arith, length-append (replicate (s .times) x) (restOf column new s), length-replicate (s .times) x)
+  walk-shorter l = piece-less (s .times) (heldIn column bytes (s .held)) (restOf column new s) (restOf column new s) refl l
 
   -- the names of k readings: that of the reading that is held, and those of the others
   pub walk-size : (k : ℕ) (ys : List (Option (List ℕ))) → 0 < k → Within column bytes (s .held) → listOf column bytes new s ≡ heldIn column bytes (s .held) ∷ ys

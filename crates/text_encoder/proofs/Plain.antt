@@ -2,7 +2,6 @@
 use Prim.Native.Nat.{ℕ, _≤_}
 use mathlib.Core.Path.{_≡_, refl, _∙_, ap}
 use mathlib.Core.List.{List, [], map, append-nil}
-use mathlib.Core.Option.{Option}
 use native.Mathlib.Omega.{arith}
 use lib.ListN.{length}
 use Rattle.leb128.specs.Answer.{done}
@@ -17,11 +16,11 @@ use Rattle.text_encoder.specs.Walks.{Pairs}
 use Rattle.text_encoder.specs.Edits.{newNames, Spliceable}
 
 -- no bytes are a sound column of no readings
-nothing-sound : outcome (trace textE []) ≡ done (length (trace textE [] .readings))
+pub nothing-sound : outcome (trace textE []) ≡ done (length (trace textE [] .readings))
 unfolding outcome outcomeOf trace traceFrom walk runAt
 nothing-sound = refl
 
-nothing-read : trace textE [] .readings ≡ []
+pub nothing-read : trace textE [] .readings ≡ []
 unfolding trace traceFrom walk runAt
 nothing-read = refl
 

@@ -18,6 +18,7 @@ use Rattle.text_encoder.specs.declared.walk.Held.{Held}
 use Rattle.text_encoder.specs.declared.walk.Held.the-variants as held
 use Rattle.text_encoder.specs.declared.walk.Splicing.{Splicing}
 use Rattle.text_encoder.proofs.Alike.{held-none, held-name, same-true, off-end, off-other, closed-none-first}
+use Rattle.text_encoder.proofs.Passing.{walk-over}
 use Rattle.text_encoder.proofs.Cutting.{same-more, same-counts, piece-less, piece-first, Begun, absent-stretch, repeat-of, repeat-stretch, lone, closed-pair}
 use Rattle.text_encoder.proofs.Cutting.{Unlike, unlike-start, unlike-counts, unlike-more, literal-stretch}
 
@@ -88,11 +89,8 @@ module _ (column bytes : List ℕ) (new : List (Option (List ℕ))) (c₀ : ℕ)
 -- ---- what stands at w, for a stretch before it
 
 module _ (column bytes : List ℕ) (new : List (Option (List ℕ))) (w : Splicing) where
-  nothing : Going column bytes new w → w .times ≤ 0 → listOf column bytes new w ≡ []
-  nothing g l = g .ended (omega arith)
-
   begun-end : Going column bytes new w → w .times ≤ 0 → Begun sameBytes (listOf column bytes new w)
-  begun-end g l = subst (Begun sameBytes) (sym (nothing g l)) tt
+  begun-end g l = subst (Begun sameBytes) (sym (walk-over column bytes new w g l)) tt
 
   begun-held : 0 < w .times → (w .held ≡ held.Absent → ⊥) → Begun sameBytes (listOf column bytes new w)
   begun-held l f =
@@ -102,11 +100,11 @@ module _ (column bytes : List ℕ) (new : List (Option (List ℕ))) (w : Splicin
       tt
 
   off-done : (a : List ℕ) → Going column bytes new w → w .times ≤ 0 → Off sameBytes a (stretches sameBytes (listOf column bytes new w))
-  off-done a g l = off-end a (listOf column bytes new w) (nothing g l)
+  off-done a g l = off-end a (listOf column bytes new w) (walk-over column bytes new w g l)
 
   pub closed-end : Going column bytes new w → w .times ≤ 0 → Closed (stretches sameBytes (listOf column bytes new w))
   unfolding stretches
-  closed-end g l = subst (λ (m : List (Option (List ℕ))). Closed (stretches sameBytes m)) (sym (nothing g l)) tt
+  closed-end g l = subst (λ (m : List (Option (List ℕ))). Closed (stretches sameBytes m)) (sym (walk-over column bytes new w g l)) tt
 
   pub closed-absent : Going column bytes new w → 0 < w .times → w .held ≡ held.Absent → Closed (stretches sameBytes (listOf column bytes new w))
   closed-absent g l e =

@@ -3,14 +3,14 @@ use Prim.Native.Nat.{ℕ, zero, suc, _+_, _-_, _≤_, max}
 use mathlib.Core.Path.{_≡_, refl, sym, _∙_, ap}
 use mathlib.Core.List.{List, [], _∷_, _++_, map, append-assoc, append-nil}
 use mathlib.Core.Option.{Option, none, some}
-use mathlib.Core.Bool.{Bool, true, false, cond}
+use mathlib.Core.Bool.{Bool, true, false}
 use native.Mathlib.Omega.{arith}
 use lib.ListN.{length, take, drop, replicate, length-map, length-append, length-replicate, replicate-append-replicate}
 use Rattle.leb128.specs.Answer.{done}
-use Rattle.encoding.specs.Column.{Reading, absent, present, value, runAt, traceFrom, trace}
+use Rattle.encoding.specs.Column.{Reading, absent, present, value, trace}
 use Rattle.encoding.specs.Limit.{limit}
 use Rattle.encoding.specs.Slots.{flagOf}
-use Rattle.encoding.specs.Walk.{Ending, walk, outcomeOf, outcome}
+use Rattle.encoding.specs.Walk.{Ending, outcomeOf, outcome}
 use Rattle.encoding.specs.Writer.{anyPresent, columnBytes}
 use Rattle.encoding.proofs.Back.{ListFits}
 use Rattle.text.specs.Text.{textE}
@@ -19,6 +19,8 @@ use Rattle.text.proofs.Texts.{text-trip}
 use Rattle.slots.specs.Splice.{inSlots}
 use Rattle.splice.specs.Contract.{flagIn, lengthIn}
 use Rattle.text_encoder.specs.Edits.{refilled}
+use Rattle.text_encoder.proofs.Plain.{nothing-sound, nothing-read}
+use Rattle.text_encoder.proofs.Runs.{column-none}
 
 -- ---- lists that can be written, in parts
 abbrev Fits : List (Option (List ℕ)) → Type 0
@@ -80,10 +82,6 @@ outcome-sound : (n : ℕ) → outcomeOf n Ending.sound ≡ done n
 unfolding outcomeOf
 outcome-sound n = refl
 
-trace-nothing : (trace textE [] .readings ≡ []) × (outcome (trace textE []) ≡ done 0)
-unfolding trace traceFrom walk runAt outcome outcomeOf
-trace-nothing = (refl, refl)
-
 full : (xs : List (Option (List ℕ))) → Fits xs → length xs ≤ limit → anyPresent xs ≡ true → Written xs
 unfolding outcome
 full xs h k e =
@@ -98,12 +96,11 @@ full xs h k e =
     }
 
 none-there : (xs : List (Option (List ℕ))) → anyPresent xs ≡ false → Written xs
-unfolding columnBytes
 none-there xs e =
-    let w : columnBytes textE xs ≡ [] = rw e in
-    let r : readBack xs ≡ [] = ap (λ (s : List ℕ). trace textE s .readings) w ∙ trace-nothing .0 in
+    let w = column-none xs e in
+    let r : readBack xs ≡ [] = ap (λ (s : List ℕ). trace textE s .readings) w ∙ nothing-read in
     record {
-      sound = ap (λ (s : List ℕ). outcome (trace textE s)) w ∙ trace-nothing .1 ∙ ap (λ (l : List (Reading (List ℕ))). done (length l)) (sym r);
+      sound = ap (λ (s : List ℕ). outcome (trace textE s)) w ∙ nothing-sound ∙ ap (λ (l : List (Reading (List ℕ))). done (length l)) (nothing-read ∙ sym r);
       few = let n = ap length r in omega arith;
       all = λ f g s z.
           let m : length xs - 0 ≡ length xs = omega arith in

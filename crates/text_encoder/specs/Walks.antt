@@ -1,15 +1,15 @@
 -- The list of names that is written, walked a piece at a time without slots: readings of a sound column, then the given names, then readings of the
 -- column again. What the private functions ask and promise. No public promise cites it.
-use Prim.Native.Nat.{ℕ, _+_, _≤_, _<_}
+use Prim.Native.Nat.{ℕ, _+_, _≤_}
 use mathlib.Core.Path.{_≡_}
-use mathlib.Core.List.{List, [], _∷_, _++_, map}
+use mathlib.Core.List.{List, [], _++_, map}
 use mathlib.Core.Option.{Option, none, some}
 use mathlib.Core.Bool.{Bool, true, false}
 use lib.ListN.{length, take, drop, replicate}
 use Rattle.leb128.specs.Write.{u64Bytes}
 use Rattle.encoding.specs.Column.{Reading, absent, present, value}
 use Rattle.encoding.specs.Walk.{Trace, sound}
-use Rattle.cursor.specs.Cursor.{Sort, same, literal, Cursor, cursor, coming}
+use Rattle.cursor.specs.Cursor.{Sort, same, literal, cursor, coming}
 use Rattle.text.specs.Text.{bytesAt, textBytes, sameBytes, textE}
 use Rattle.text.specs.Given.{nameList, badPair}
 use Rattle.text_encoder.specs.declared.walk.Held.{Held}

@@ -2,7 +2,6 @@
 use Prim.Native.Nat.{_-_, _≤_}
 use mathlib.Core.Path.{_≡_}
 use native.Mathlib.Omega.{arith}
-use borrow.Author.Needs.{needs}
 use lib.ListN.{length, replicate}
 use Rattle.slots.proofs.Moves.{Stored, stored-all, clear-start, clear-turn}
 use Rattle.text_encoder.proofs.range.clear.Statement.{statement}

@@ -7,7 +7,8 @@ use borrow.Author.Needs.{needs}
 use Rattle.encoding.specs.Writer.{anyPresent}
 use Rattle.text.specs.Given.{nameList}
 use Rattle.text_encoder.specs.Walks.{At, namesFrom}
-use Rattle.text_encoder.proofs.Passing.{absent-yes, absent-no, walk-shorter, walk-some, walk-none, walk-over}
+use Rattle.text_encoder.proofs.Alike.{absent-true, absent-false}
+use Rattle.text_encoder.proofs.Passing.{walk-shorter, walk-some, walk-none, walk-over}
 use Rattle.text_encoder.proofs.Runs.{any-over}
 use Rattle.text_encoder.proofs.sizes.any_present.Statement.{statement}
 use Rattle.text_encoder.proofs.sizes.any_present.Tie as tie
@@ -32,7 +33,7 @@ returns c =
     let w = c .before .before .before .before .loop .walk in
     let new = nameList (a .bytes .now) (a .starts .now) (a .lens .now) (a .present .now) in
     let b = c .before .is-absent in
-    let n = absent-no (w .held) (b .result) (b .ensures) (not-true _ (c .if2 .taken)) in
+    let n = absent-false (w .held) (b .result) (b .ensures) (not-true _ (c .if2 .taken)) in
     walk-some (a .column .now) (a .bytes .now) new w (c .before .before .if1 .taken) n ∙ sym (c .before .before .before .before .loop .inv .1)
 
 advanced-requires : tie.Need-advanced-requires Inv-loop μ-loop
@@ -53,7 +54,7 @@ loop-again c =
     let new = nameList (a .bytes .now) (a .starts .now) (a .lens .now) (a .present .now) in
     let l = c .before .before .before .before .before .loop in
     let b = c .before .before .is-absent in
-    let y = absent-yes (l .walk .held) (b .result) (b .ensures) (not-false _ (c .before .if2 .left)) in
+    let y = absent-true (l .walk .held) (b .result) (b .ensures) (not-false _ (c .before .if2 .left)) in
     let e = c .advanced .ensures in
     (e .0, l .inv .1 ∙ walk-none (a .column .now) (a .bytes .now) new (l .walk) y ∙ sym (ap anyPresent (e .1)))
 

@@ -5,7 +5,6 @@ use mathlib.Core.List.{List}
 use mathlib.Core.Option.{Option}
 use native.Mathlib.Omega.{arith}
 use lib.ListN.{length}
-use borrow.Author.Needs.{needs}
 use Rattle.encoding.specs.Writer.{columnBytes}
 use Rattle.text.specs.Text.{textE}
 use Rattle.text_encoder.specs.Cases.{fit}
