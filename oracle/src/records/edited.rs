@@ -28,15 +28,34 @@ pub struct Served {
 
 /// What a call is given.
 #[derive(Clone)]
-pub struct Edit {
+pub struct Edit<N = Slices> {
     pub block: Vec<u8>,
     pub position: u64,
     pub start: u64,
     /// none: to the end of the list, by the call that takes only a start
     pub end: Option<u64>,
-    pub new: Slices,
+    pub new: N,
     pub slots: Slices,
     pub out: Vec<u8>,
+}
+
+impl<N> Edit<N> {
+    /// One with nothing lent yet.
+    pub fn new(
+        (block, position): (Vec<u8>, u64),
+        (start, end): (u64, Option<u64>),
+        new: N,
+    ) -> Edit<N> {
+        Edit {
+            block,
+            position,
+            start,
+            end,
+            new,
+            slots: vec![],
+            out: vec![],
+        }
+    }
 }
 
 /// An edit that nothing stops before the slots are filled.
@@ -147,21 +166,36 @@ pub fn record(out: &mut String, served: &Served, mut edit: Edit) {
     if !tables::is_ordered_alike(&edit.block) {
         return;
     }
-    let record = Record::call(served.call)
-        .bytes(&edit.block)
-        .number(edit.position)
-        .number(edit.start);
-    let record = match edit.end {
-        Some(end) => record.number(end),
-        None => record.field("end"),
-    }
-    .lists(&edit.new)
-    .lists(&edit.slots)
-    .bytes(&edit.out);
+    let record = called(served.call, &edit)
+        .lists(&edit.new)
+        .lists(&edit.slots)
+        .bytes(&edit.out);
     let finished = ready(served, &edit).and_then(|ready| {
         fill(served, &mut edit, &ready);
         finish(served, &mut edit, &ready)
     });
+    answered(out, record, &edit, finished);
+}
+
+/// The call, its block and its range.
+pub fn called<N>(call: &str, edit: &Edit<N>) -> Record {
+    let record = Record::call(call)
+        .bytes(&edit.block)
+        .number(edit.position)
+        .number(edit.start);
+    match edit.end {
+        Some(end) => record.number(end),
+        None => record.field("end"),
+    }
+}
+
+/// What it came to: the refusal, or the new block with its table, and what slots and output then hold.
+pub fn answered<N>(
+    out: &mut String,
+    record: Record,
+    edit: &Edit<N>,
+    finished: Result<usize, Fault>,
+) {
     let record = match finished {
         Err((TOO_MANY, _)) => return,
         Err(fault) => tables::refused(record, fault)

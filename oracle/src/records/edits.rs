@@ -142,26 +142,16 @@ fn lend(served: &Served, edit: &mut Edit, slots_short: u64, out_short: u64, rand
             out = length.unwrap().1 as u64;
         }
     }
-    let more = |random: &mut Random| random.pick(&[0, 0, 0, 1, 3]);
-    let slots = (slots + more(random)).saturating_sub(slots_short);
-    let out = (out + more(random)).saturating_sub(out_short);
+    let slots = more_or_fewer(slots, slots_short, random);
     edit.slots = (0..served.slices)
-        .map(|slice| vec![[0xee, 7][slice]; slots as usize])
+        .map(|slice| vec![[0xee, 7][slice]; slots])
         .collect();
-    edit.out = vec![0xee; out as usize];
+    edit.out = vec![0xee; more_or_fewer(out, out_short, random)];
 }
 
-/// An edit with nothing lent yet.
-fn edit((block, position): (Vec<u8>, u64), (start, end): (u64, Option<u64>), new: Slices) -> Edit {
-    Edit {
-        block,
-        position,
-        start,
-        end,
-        new,
-        slots: vec![],
-        out: vec![],
-    }
+/// Room for so many, for a few more, or for `short` too few.
+pub fn more_or_fewer(n: u64, short: u64, random: &mut Random) -> usize {
+    (n + random.pick(&[0, 0, 0, 1, 3])).saturating_sub(short) as usize
 }
 
 pub fn all(out: &mut String, options: &Options, random: &mut Random) {
@@ -197,7 +187,7 @@ fn small(out: &mut String, options: &Options, random: &mut Random, column: &Colu
                     let new: Vec<Reading> =
                         kinds.iter().map(|&kind| column.few_new[kind]).collect();
                     let new = given(&new, column.served.slices, random);
-                    let mut edit = edit(
+                    let mut edit = Edit::new(
                         placed(column.served.types[0], column_of(column, &old), place),
                         (start, end),
                         new,
@@ -224,7 +214,7 @@ fn around(out: &mut String, options: &Options, random: &mut Random, column: &Col
                 let place = n + gone + new[0].len();
                 let place = placed(column.served.types[0], column_of(column, &old), place);
                 let range = (at as u64, Some((at + gone).min(n) as u64));
-                let mut edit = edit(place, range, new);
+                let mut edit = Edit::new(place, range, new);
                 lend(&column.served, &mut edit, 0, 0, random);
                 record(out, &column.served, edit);
             }
@@ -239,7 +229,7 @@ fn far(out: &mut String, random: &mut Random) {
         let kept = old.min(new);
         let new = slices(&(BOOLEAN.alternating)(new)[kept..], 1);
         let range = (kept as u64, Some(old as u64));
-        let mut edit = edit(placed(4, column, 2), range, new);
+        let mut edit = Edit::new(placed(4, column, 2), range, new);
         lend(&BOOLEAN.served, &mut edit, 0, 0, random);
         record(out, &BOOLEAN.served, edit);
     }
@@ -353,7 +343,7 @@ fn chance(out: &mut String, column: &Column, random: &mut Random) {
     };
     let (start, end) = chance_range(length, random);
     let place = chance_block(served.types, bytes, random);
-    let mut edit = edit(place, (start, end), chance_new(column, random));
+    let mut edit = Edit::new(place, (start, end), chance_new(column, random));
     if random.below(16) == 0 {
         damage(&mut edit.block, random);
     }

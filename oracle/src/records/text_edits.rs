@@ -3,27 +3,18 @@
 //! new column, each held to the crate's string.
 
 use super::columns::{all_lists, Slices};
-use super::edits::{chance_block, chance_range, placed, spoil_bytes};
+use super::edited::{self, answered, called};
+use super::edits::{chance_block, chance_range, more_or_fewer, placed, spoil_bytes};
 use super::tables::{self, damage, Fault};
 use super::text::{chance, laid, spoil, wasteful, Names, KIND};
-use super::{comment, Options, Record};
+use super::{comment, Options};
 use crate::numbers::write_u64;
 use crate::random::Random;
 use crate::text::{self, Name};
 use crate::{specifications, TOO_MANY};
 
 /// What the call is given.
-#[derive(Clone)]
-struct Edit {
-    block: Vec<u8>,
-    position: u64,
-    start: u64,
-    /// none: to the end of the list
-    end: Option<u64>,
-    new: Names,
-    slots: Slices,
-    out: Vec<u8>,
-}
+type Edit = edited::Edit<Names>;
 
 /// A list in a record has at most so many names.
 const MOST: usize = 256;
@@ -96,33 +87,13 @@ fn record(out: &mut String, mut edit: Edit) {
     if lists.map(Vec::len).any(|n| n > MOST) || !tables::is_ordered_alike(&edit.block) {
         return;
     }
-    let record = Record::call("splice_text")
-        .bytes(&edit.block)
-        .number(edit.position)
-        .number(edit.start);
-    let record = match edit.end {
-        Some(end) => record.number(end),
-        None => record.field("end"),
-    };
-    let record = record.bytes(&edit.new.bytes);
-    let record = record.lists(&edit.new.slices).lists(&edit.slots);
-    let record = record.bytes(&edit.out);
-    let record = match ready(&edit).and_then(|done| finish(&mut edit, done)) {
-        Err((TOO_MANY, _)) => return,
-        Err(fault) => tables::refused(record, fault)
-            .number(0)
-            .lists(&[vec![], vec![], vec![]]),
-        Ok(length) => {
-            // the crate reads the new table
-            let (_, rows) = tables::open(&edit.out[..length]).unwrap();
-            let rows = tables::row_lists(&rows);
-            record.accepted().number(length as u64).lists(&rows)
-        }
-    };
-    let record = record.lists(&edit.slots).bytes(&edit.out);
-    if record.0.len() <= 65_536 {
-        record.end(out);
-    }
+    let record = called("splice_text", &edit)
+        .bytes(&edit.new.bytes)
+        .lists(&edit.new.slices)
+        .lists(&edit.slots)
+        .bytes(&edit.out);
+    let finished = ready(&edit).and_then(|done| finish(&mut edit, done));
+    answered(out, record, &edit, finished);
 }
 
 /// Lends slots and an output: just enough, more, or too few.
@@ -136,24 +107,9 @@ fn lend(edit: &mut Edit, slots_short: u64, out_short: u64, random: &mut Random) 
         edit.out = vec![0; edit.block.len() + done.column.len() + 10];
         out = finish(&mut edit.clone(), done).unwrap() as u64;
     }
-    let more = |random: &mut Random| random.pick(&[0, 0, 0, 1, 3]);
-    let slots = (slots + more(random)).saturating_sub(slots_short);
-    let out = (out + more(random)).saturating_sub(out_short);
-    edit.slots = [0xee, 7, 5].map(|slot| vec![slot; slots as usize]).to_vec();
-    edit.out = vec![0xee; out as usize];
-}
-
-/// An edit with nothing lent yet.
-fn edit((block, position): (Vec<u8>, u64), (start, end): (u64, Option<u64>), new: Names) -> Edit {
-    Edit {
-        block,
-        position,
-        start,
-        end,
-        new,
-        slots: vec![vec![]; 3],
-        out: vec![],
-    }
+    let slots = more_or_fewer(slots, slots_short, random);
+    edit.slots = [0xee, 7, 5].map(|slot| vec![slot; slots]).to_vec();
+    edit.out = vec![0xee; more_or_fewer(out, out_short, random)];
 }
 
 /// The column of a list; one of absent names alone stands as a run of them.
@@ -193,7 +149,7 @@ fn small(out: &mut String, options: &Options, random: &mut Random) {
             for end in (start..=length + 1).map(Some).chain([None]) {
                 all_lists(few_new.len(), if options.lean { 1 } else { 2 }, |kinds| {
                     let new = laid(&names(&few_new, kinds), random);
-                    let mut edit = edit(placed(5, column_of(&old), place), (start, end), new);
+                    let mut edit = Edit::new(placed(5, column_of(&old), place), (start, end), new);
                     place += 1;
                     let short = random.pick(&[(0, 0), (0, 0), (0, 0), (0, 1), (1, 0)]);
                     lend(&mut edit, short.0, short.1, random);
@@ -219,7 +175,7 @@ fn around(out: &mut String, random: &mut Random) {
         ] {
             let new = laid(new, random);
             let place = placed(5, column_of(old), random.below(4) as usize);
-            let mut edit = edit(place, (start, Some(end)), new);
+            let mut edit = Edit::new(place, (start, Some(end)), new);
             lend(&mut edit, 0, 0, random);
             record(out, edit);
         }
@@ -230,7 +186,7 @@ fn around(out: &mut String, random: &mut Random) {
             let length = random.below(3);
             let new = laid(&chance(length, random), random);
             let place = placed(5, column_of(&old), n);
-            let mut edit = edit(place, (start as u64, Some(end as u64)), new);
+            let mut edit = Edit::new(place, (start as u64, Some(end as u64)), new);
             lend(&mut edit, 0, 0, random);
             record(out, edit);
         }
@@ -254,7 +210,7 @@ fn by_chance(out: &mut String, random: &mut Random) {
     let place = chance_block(&[5], bytes, random);
     let new = random.pick(&[0, 1, 1, 2, 3, 8]);
     let new = laid(&chance(new, random), random);
-    let mut edit = edit(place, range, new);
+    let mut edit = Edit::new(place, range, new);
     if random.below(16) == 0 {
         damage(&mut edit.block, random);
     }
