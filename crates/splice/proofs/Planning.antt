@@ -7,17 +7,12 @@ use mathlib.Core.Bool.{Bool, true, false, cond}
 use native.Mathlib.Omega.{arith}
 use lib.Dec.{ltb, leb, eqb}
 use lib.ListN.{length, getD, take, drop}
-use lib.Seq.{getD-take}
 use borrow.Author.Tests.{ltb-true, ltb-false, lt-ltb, le-ltb, leb-true, leb-false, le-leb, lt-leb, eq-eqb, ne-eqb}
 use Rattle.leb128.specs.Answer.{Answer, done, refused}
 use Rattle.column_specification.specs.Specification.{typeOf}
 use Rattle.encoding.specs.Limit.{limit}
 use Rattle.encoding.specs.Given.{badFlag, flagsJudged, listJudged}
 use Rattle.encoding.specs.Walk.{Trace, Ending, sound, fault, outcomeOf, outcome}
-use Rattle.encoding.specs.Column.{trace}
-use Rattle.rle_decoder.specs.Word.{u64E}
-use Rattle.delta_decoder.specs.Sums.{deltaTrace}
-use Rattle.boolean_decoder.specs.Turns.{boolTrace}
 use Rattle.raw_column.specs.Table.{Tab, tab, faulty, parse}
 use Rattle.block_frame.specs.Columns.{newBlock}
 use Rattle.column_part.specs.Part.{startOf, noPart, rowPart, partIn, partAt}

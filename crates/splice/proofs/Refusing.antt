@@ -1,11 +1,11 @@
 -- 7 and 10, over the kind of column: what is answered and written is the same whether the slots hold the new list or are left as found. Assumes nothing.
-use Prim.Native.Nat.{ℕ, _<_}
+use Prim.Native.Nat.{ℕ}
 use mathlib.Core.Path.{_≡_, refl, ap}
 use mathlib.Core.List.{List}
 use mathlib.Core.Bool.{Bool, true, false, cond}
 use Rattle.slots.specs.Splice.{inSlots}
 use Rattle.splice.specs.Kind.{Kind}
-use Rattle.splice.specs.Edit.{Edited, stop, late, accepted, refuses, refusal, answered, slotsLeft, outLeft}
+use Rattle.splice.specs.Edit.{Edited, stop, late, refuses, refusal, answered, slotsLeft, outLeft}
 
 module _ {A : Type 0} (K : Kind A) (number place old : ℕ) (xs : List A) where
   -- whatever holds of both

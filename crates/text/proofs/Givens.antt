@@ -7,11 +7,11 @@ use mathlib.Core.Bool.{Bool, true, false, cond, _&&_, _||_}
 use native.Mathlib.Numerals.{add-one}
 use native.Mathlib.Omega.{arith}
 use lib.Dec.{ltb, leb, eqb}
-use lib.ListN.{length, getD, take, drop, drop-of-length-le, length-take, length-drop}
+use lib.ListN.{length, getD, drop, drop-of-length-le, length-take, length-drop}
 use lib.Seq.{drop-cons}
 use borrow.Author.Tests.{lt-ltb, le-leb, lt-leb, leb-true, leb-false, eqb-true, eq-eqb, ne-eqb}
 use Rattle.leb128.specs.Answer.{done, refused}
-use Rattle.encoding.specs.Given.{slotList}
+use Rattle.encoding.specs.Given.{given, slotList}
 use Rattle.encoding.specs.Limit.{limit}
 use Rattle.encoding.proofs.Back.{ListFits}
 use Rattle.encoding.proofs.Looking.{slot-drop, slot-past}
@@ -96,18 +96,18 @@ module _ (b a l p : List ℕ) (i : ℕ) where
   textFrom = badText i (drop i (nameList b a l p))
 
   module _ (j : i < length a) (e : length l ≡ length a) (f : length p ≡ length a) where
-    shown : drop i (nameList b a l p) ≡ cond (eqb (getD p i 0) 0) none (some (bytesAt b (getD a i 0) (getD l i 0))) ∷ drop (suc i) (nameList b a l p)
-    shown =
+    pub names-at : drop i (nameList b a l p) ≡ given (getD p i 0) (bytesAt b (getD a i 0) (getD l i 0)) ∷ drop (suc i) (nameList b a l p)
+    names-at =
         let n = cut-length b a l e in
         slot-drop [] (cutNames b a l) p i (omega arith) (omega arith)
-        ∙ ap (λ (v : List ℕ). cond (eqb (getD p i 0) 0) none (some v) ∷ drop (suc i) (nameList b a l p)) (cut-at b a l i j e)
+        ∙ ap (λ (v : List ℕ). given (getD p i 0) v ∷ drop (suc i) (nameList b a l p)) (cut-at b a l i j e)
 
     on-next : badText (suc i) (drop (suc i) (nameList b a l p)) ≡ badText (i + 1) (drop (i + 1) (nameList b a l p))
     on-next = ap (λ (k : ℕ). badText k (drop k (nameList b a l p))) (sym (add-one i))
 
     at-name : textFrom ≡ cond (goodText (bytesAt b (getD a i 0) (getD l i 0)) (getD p i 0)) (badText (suc i) (drop (suc i) (nameList b a l p))) (some i)
     unfolding badText goodText
-    at-name = ap (badText i) shown ∙ go (eqb (getD p i 0) 0)
+    at-name = ap (badText i) names-at ∙ go (eqb (getD p i 0) 0)
       where
         go : (t : Bool) → badText i (cond t none (some (bytesAt b (getD a i 0) (getD l i 0))) ∷ drop (suc i) (nameList b a l p))
             ≡ cond (t || isUtf8 (bytesAt b (getD a i 0) (getD l i 0))) (badText (suc i) (drop (suc i) (nameList b a l p))) (some i)
@@ -120,9 +120,12 @@ module _ (b a l p : List ℕ) (i : ℕ) where
     pub text-bad : goodText (bytesAt b (getD a i 0) (getD l i 0)) (getD p i 0) ≡ false → textFrom ≡ some i
     text-bad u = at-name ∙ ap (λ (t : Bool). cond t (badText (suc i) (drop (suc i) (nameList b a l p))) (some i)) u
 
+  pub names-past : length l ≡ length a → length a ≤ i → drop i (nameList b a l p) ≡ []
+  names-past e j = let n = cut-length b a l e in slot-past (cutNames b a l) p i (omega arith)
+
   pub text-end : length l ≡ length a → length a ≤ i → textFrom ≡ none
   unfolding badText
-  text-end e j = let n = cut-length b a l e in ap (badText i) (slot-past (cutNames b a l) p i (omega arith))
+  text-end e j = ap (badText i) (names-past e j)
 
 -- ---- one pair, by each way that it is judged
 

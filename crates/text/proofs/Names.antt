@@ -11,7 +11,7 @@ use Rattle.leb128.proofs.Laws.{u64-next, u64-only}
 use Rattle.encoding.specs.Column.{present, trace}
 use Rattle.text.specs.Text.{bytesAt, textAt, textE}
 use Rattle.text.specs.Name.{startOf, lengthOf}
-use Rattle.text.proofs.TextLaws.{Read, text-read}
+use Rattle.text.proofs.TextLaws.{text-read}
 use Rattle.text.proofs.Placed.{Each, trace-each}
 
 -- the name v whose length number stands at p has its bytes in s where its start and length say

@@ -1,6 +1,5 @@
 -- `given_names::is_good_pair` meets its contract: one law for each way out. Assumes nothing.
 use mathlib.Core.Path.{sym}
-use native.Mathlib.Omega.{arith}
 use borrow.Author.Needs.{needs}
 use Rattle.text.proofs.Givens.{pair-absent, pair-flag, pair-room, pair-long}
 use Rattle.given_names.proofs.is_good_pair.Statement.{statement}

@@ -3,7 +3,6 @@ use Prim.Native.Nat.{ℕ, _+_, _-_}
 use mathlib.Core.Path.{_≡_, sym, _∙_, ap}
 use native.Mathlib.Omega.{arith}
 use borrow.Author.Needs.{needs}
-use lib.ListN.{length}
 use Rattle.utf8.specs.Utf8.{isUtf8}
 use Rattle.text.specs.Text.{bytesAt}
 use Rattle.text.proofs.Givens.{pair-within, text-absent, text-there}

@@ -6,9 +6,6 @@ use mathlib.Core.List.{List}
 use lib.ListN.{length, take}
 use lib.Seq.{length-take-le, take-all}
 use Prim.Native.Nat.{ℕ, _≤_}
-use Rattle.raw_column.specs.Rows.{opened}
-use Rattle.raw_column.specs.Table.{parse}
-use Rattle.raw_column.specs.declared.Opened.{Opened}
 use denote.Ref.{now}
 use borrow.Author.Needs.{needs}
 use Rattle.splice.specs.Edit.{blockAnswer}

@@ -1,5 +1,5 @@
 -- `splice::count_as` meets its contract: the count of each kind. Assumes nothing.
-use mathlib.Core.Path.{sym, ap, _∙_}
+use mathlib.Core.Path.{_∙_}
 use denote.Ref.{now}
 use Rattle.splice.proofs.Counting.{count-integer, count-delta, count-boolean, count-text}
 use borrow.Author.Needs.{needs}

@@ -1,7 +1,8 @@
 -- `text_encoder::walk::advanced` meets its contract: one law for each of the list's three parts. Assumes nothing.
 use borrow.Author.Needs.{needs}
 use Rattle.text.specs.Given.{nameList}
-use Rattle.text_encoder.proofs.Pairs.{names-next, names-past}
+use Rattle.text.proofs.Givens.{names-past}
+use Rattle.text_encoder.proofs.Pairs.{names-next}
 use Rattle.text_encoder.proofs.Advanced.{gap-there, early-list, early-going, amid-list, amid-going, late-list, late-going}
 use Rattle.text_encoder.proofs.walk.advanced.Statement.{statement}
 use Rattle.text_encoder.proofs.walk.advanced.Tie as tie
@@ -52,7 +53,7 @@ returns-3 c =
     let a = c .before .before .before .before .before .before .before .before .before .before .before .before .before in
     let x = a .args in
     let new = nameList (x .bytes .now) (x .starts .now) (x .lens .now) (x .present .now) in
-    let e = names-past _ _ _ _ _ (a .pre .0) (c .before .before .before .if2 .left) in
+    let e = names-past _ _ _ _ _ (a .pre .0 .even) (c .before .before .before .if2 .left) in
     let q = c .before .before .skipped .ensures .1 in
     let d = c .before .drawn2 .ensures in
     let b = c .before .before .before .before .before .if1 .left in (
