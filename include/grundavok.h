@@ -1,4 +1,4 @@
-/* The column encodings of Automerge documents, proved: numbers, specifications, columns, tables and edits.
+/* The column encodings of Automerge documents, proved: numbers, specifications, columns, salvage, tables and edits.
  *
  * Link libcapi.a, which `rt staticlib capi` writes (x86-64 Linux). The functions call nothing but memcpy and memset, allocate nothing,
  * keep nothing and share nothing: any two may run at once on different buffers.
@@ -11,7 +11,8 @@
  * Nothing is kept: when a call returns, every buffer is the caller's alone again.
  *
  * ANSWERS are structs by value. `number` is 0 where the call was accepted, and else the refusal's; `place` is the refusal's place and
- * 0 where there is none; every other number of a refusal is 0. Any bytes, lists and ranges may go to any function.
+ * 0 where there is none; every other number of a refusal is 0. Any bytes, lists and ranges may go to any function. A `fault` is the
+ * column's and no refusal: the same numbers, told beside what survives of it (see "Salvage").
  *
  *   1  the bytes end within a number, after one with bit 7 set,     its first byte;
  *      or fewer are there than a name has                           of a name its length number's
@@ -103,6 +104,24 @@ typedef struct {
     size_t place;   /* 8 */
     uint64_t count; /* 16 */
 } grundavok_counted;
+
+/* What survives of a column: how many readings, and its first fault, number and place; 0 and 0 of a sound column. 24 bytes. */
+typedef struct {
+    uint8_t fault;     /* 0 */
+    size_t place;      /* 8 */
+    uint64_t readings; /* 16 */
+} grundavok_survey;
+
+/* A salvage: the call's own refusal (number, place) and, apart from it, the column's first fault (fault, fault_place), 0 and 0 of a sound
+ * column; how many readings were kept, and how many bytes were written. 40 bytes. */
+typedef struct {
+    uint8_t number;     /* 0 */
+    uint8_t fault;      /* 1 */
+    size_t place;       /* 8 */
+    size_t fault_place; /* 16 */
+    uint64_t kept;      /* 24 */
+    size_t written;     /* 32 */
+} grundavok_salvaged;
 
 /* What comes next in a column that is read by a cursor. 24 bytes each. `what` is GRUNDAVOK_PRESENT, and value the reading's; or
  * GRUNDAVOK_ABSENT or GRUNDAVOK_END, and value is 0. In a refusal it is 0, as all else: a refusal is never the end. */
@@ -315,6 +334,51 @@ grundavok_counted grundavok_text_encoded_len(const uint8_t *bytes, size_t bytes_
 grundavok_counted grundavok_text_encode(const uint8_t *bytes, size_t bytes_len, const uint64_t *starts, size_t starts_len,
                                         const uint64_t *lens, size_t lens_len, const uint8_t *present, size_t present_len, uint8_t *out,
                                         size_t out_len);
+
+/* ---- Salvage: what survives of a column that was cut or is broken, which is all readings before the first faulty one ---- */
+
+/* A run whose value does not read, or whose count passes 4,294,967,295, gives none; of literal values those before the one that does not
+ * read survive, and of a delta run that leaves int64_t the readings whose sums fit.
+ *
+ * A CUT BETWEEN TWO RUNS IS NO FAULT. Such a column reads as a sound and shorter one, fault 0, and nothing here can see what is missing. The
+ * lengths in a block's table can: a block that was cut is refused with 14. Of a column without its block, keep the number of readings beside
+ * it.
+ *
+ * With MOST slots in values and in present, and 11 * n bytes in out:
+ *
+ *     grundavok_survey v = grundavok_rle_survey(s, n);
+ *     if (v.readings > MOST) return too_many(v.readings);
+ *     grundavok_salvaged r = grundavok_rle_salvage(2, s, n, values, v.readings, present, v.readings, out, 11 * n);
+ *     if (r.number != 0) return refused(r.number);
+ *     if (r.fault != 0) warn(r.kept, r.fault, r.fault_place);
+ *     return keep(out, r.written);
+ */
+
+/* How many readings survive, the absent ones too, and the column's first fault, the refusal of its count. It costs what the bytes cost,
+ * whatever the counts announce. No refusal. */
+grundavok_survey grundavok_rle_survey(const uint8_t *s, size_t s_len);
+grundavok_survey grundavok_delta_survey(const uint8_t *s, size_t s_len);
+grundavok_survey grundavok_boolean_survey(const uint8_t *s, size_t s_len);
+grundavok_survey grundavok_text_survey(const uint8_t *s, size_t s_len);
+
+/* The readings that survive into the first slots, as decode fills them, and the same readings as a fresh column at the front of out; kept is
+ * how many, written how many bytes. A sound column is encoded anew, its fault 0. A fault refuses nothing: a column of which nothing survives
+ * is accepted with kept 0. `typ` is the column's type, as grundavok_spec_col_type gives it; served: rle 1 and 2, delta 3, boolean 4, text 5.
+ * Refusals, in this order: 17 for another type; 8 where slices of slots differ in length; 9 where slots are fewer than the readings that
+ * survive; 10. Any of them leaves slots and out as they were, and tells no fault.
+ * Slots: as many as the survey's readings; those that the counts announce behind a fault need none. Output: 11 times the column's length
+ * always does, mostly the column's length does too; or lend more after 10.
+ * Absent readings that survive are kept, counted and stand in the slots, though nothing is written where no kept one is present: kept can be
+ * above 0 with written 0. A boolean no is present. The starts of names count in the given column s, not in out. */
+grundavok_salvaged grundavok_rle_salvage(uint8_t typ, const uint8_t *s, size_t s_len, uint64_t *values, size_t values_len,
+                                         uint8_t *present, size_t present_len, uint8_t *out, size_t out_len);
+grundavok_salvaged grundavok_delta_salvage(uint8_t typ, const uint8_t *s, size_t s_len, int64_t *values, size_t values_len,
+                                           uint8_t *present, size_t present_len, uint8_t *out, size_t out_len);
+grundavok_salvaged grundavok_boolean_salvage(uint8_t typ, const uint8_t *s, size_t s_len, uint8_t *values, size_t values_len, uint8_t *out,
+                                             size_t out_len);
+grundavok_salvaged grundavok_text_salvage(uint8_t typ, const uint8_t *s, size_t s_len, uint64_t *starts, size_t starts_len,
+                                          uint64_t *lens, size_t lens_len, uint8_t *present, size_t present_len, uint8_t *out,
+                                          size_t out_len);
 
 /* ---- Tables: a block is a table followed directly by its column data and nothing more ---- */
 

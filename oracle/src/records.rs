@@ -5,9 +5,11 @@ mod columns;
 mod delta;
 mod edited;
 mod edits;
+mod kinds;
 mod numbers;
 mod optional;
 mod rle;
+mod salvage;
 mod specifications;
 mod tables;
 mod text;
@@ -35,7 +37,7 @@ pub struct Family {
     write: fn(&mut String, &Options, &mut Random),
 }
 
-pub const FAMILIES: [Family; 17] = [
+pub const FAMILIES: [Family; 18] = [
     Family {
         name: "numbers-short",
         about: "the four readers on all inputs of 0 to 2 bytes",
@@ -115,6 +117,11 @@ pub const FAMILIES: [Family; 17] = [
         name: "text-edits",
         about: "edits of String columns, sound and refused ones",
         write: text_edits::all,
+    },
+    Family {
+        name: "salvage",
+        about: "columns of the four kinds, sound and faulty ones, surveyed and salvaged",
+        write: salvage::all,
     },
     Family {
         name: "utf8",

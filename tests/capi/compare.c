@@ -71,6 +71,18 @@ void counted_is(int line, const char *call, grundavok_counted r, uint8_t number,
     told(line, call, r.number == number && r.place == place && r.count == count);
 }
 
+void survey_is(int line, const char *call, grundavok_survey r, uint8_t fault, size_t place, uint64_t readings) {
+    calls++;
+    told(line, call, r.fault == fault && r.place == place && r.readings == readings);
+}
+
+void salvaged_is(int line, const char *call, grundavok_salvaged r, uint8_t number, size_t place, uint8_t fault, size_t fault_place, uint64_t kept,
+                 size_t written) {
+    calls++;
+    told(line, call, r.number == number && r.place == place && r.fault == fault && r.fault_place == fault_place);
+    told(line, call, r.kept == kept && r.written == written);
+}
+
 void spec_is(int line, const char *call, grundavok_specification r, uint8_t number, size_t place, uint32_t spec) {
     calls++;
     told(line, call, r.number == number && r.place == place && r.spec == spec);
@@ -108,6 +120,8 @@ _Static_assert(sizeof(grundavok_rle_cursor) == 56 && offsetof(grundavok_rle_curs
 _Static_assert(sizeof(grundavok_delta_cursor) == 64 && offsetof(grundavok_delta_cursor, sum) == 56, "delta_cursor");
 _Static_assert(sizeof(grundavok_boolean_cursor) == 40 && offsetof(grundavok_boolean_cursor, flag) == 32, "boolean_cursor");
 _Static_assert(sizeof(grundavok_counted) == 24 && offsetof(grundavok_counted, count) == 16, "counted");
+_Static_assert(sizeof(grundavok_survey) == 24 && offsetof(grundavok_survey, readings) == 16, "survey");
+_Static_assert(sizeof(grundavok_salvaged) == 40 && offsetof(grundavok_salvaged, written) == 32, "salvaged");
 _Static_assert(sizeof(grundavok_specification) == 24 && offsetof(grundavok_specification, spec) == 16, "specification");
 _Static_assert(sizeof(grundavok_table) == 1288 && offsetof(grundavok_table, rows) == 1280, "table");
 _Static_assert(sizeof(grundavok_opened) == 1312 && offsetof(grundavok_opened, table) == 24, "opened");
@@ -121,6 +135,7 @@ int main(void) {
     columns();
     cursors();
     texts();
+    salvages();
     tables();
     edits();
     printf("capi: %d calls compared, %d differences\n", calls, differences);

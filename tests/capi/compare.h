@@ -1,4 +1,4 @@
-/* An answer of the boundary compared with the one that document 01 asks for, and what a call left in a buffer with what it is to leave.
+/* An answer of the boundary compared with the one that documents 01 and 02 ask for, and what a call left in a buffer with what it is to leave.
  * Each answer counts as one call. */
 #ifndef COMPARE_H
 #define COMPARE_H
@@ -21,6 +21,9 @@ void rle_cursor_is(int line, const char *what, grundavok_rle_cursor is, grundavo
 void delta_cursor_is(int line, const char *what, grundavok_delta_cursor is, grundavok_delta_cursor wanted);
 void boolean_cursor_is(int line, const char *what, grundavok_boolean_cursor is, grundavok_boolean_cursor wanted);
 void counted_is(int line, const char *call, grundavok_counted r, uint8_t number, size_t place, uint64_t count);
+void survey_is(int line, const char *call, grundavok_survey r, uint8_t fault, size_t place, uint64_t readings);
+void salvaged_is(int line, const char *call, grundavok_salvaged r, uint8_t number, size_t place, uint8_t fault, size_t fault_place, uint64_t kept,
+                 size_t written);
 void spec_is(int line, const char *call, grundavok_specification r, uint8_t number, size_t place, uint32_t spec);
 void part_is(int line, const char *call, grundavok_part r, uint8_t number, size_t place, size_t start, size_t len);
 void frame_is(int line, const char *call, grundavok_frame r, uint8_t number, size_t place, size_t at, size_t len);
@@ -39,6 +42,8 @@ void left_is(int line, const char *what, const void *is, const void *wanted, siz
 #define DELTA_CURSOR(k, ...) delta_cursor_is(__LINE__, #k, k, (grundavok_delta_cursor){__VA_ARGS__})
 #define BOOLEAN_CURSOR(k, ...) boolean_cursor_is(__LINE__, #k, k, (grundavok_boolean_cursor){__VA_ARGS__})
 #define COUNTED(call, ...) counted_is(__LINE__, #call, call, __VA_ARGS__)
+#define SURVEY(call, ...) survey_is(__LINE__, #call, call, __VA_ARGS__)
+#define SALVAGED(call, ...) salvaged_is(__LINE__, #call, call, __VA_ARGS__)
 #define SPEC(call, ...) spec_is(__LINE__, #call, call, __VA_ARGS__)
 #define PART(call, ...) part_is(__LINE__, #call, call, __VA_ARGS__)
 #define FRAME(call, ...) frame_is(__LINE__, #call, call, __VA_ARGS__)
@@ -59,6 +64,7 @@ void specifications(void);
 void columns(void);
 void cursors(void);
 void texts(void);
+void salvages(void);
 void tables(void);
 void edits(void);
 

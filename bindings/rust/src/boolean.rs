@@ -10,6 +10,16 @@ crate::readings::readings!(
     |_, value| value != 0
 );
 
+crate::salvage::salvage!(
+    salvage,
+    bool,
+    grundavok_boolean_survey,
+    grundavok_boolean_salvage,
+    Boolean,
+    [values],
+    |_, values: Vec<u8>| lists::booleans(&values)
+);
+
 /// How many values a column has, or its first fault: 1, 2, 3 or 5. It costs what the bytes cost.
 pub fn count(s: &[u8]) -> Result<usize, Refusal> {
     let r = unsafe { raw::grundavok_boolean_count(s.as_ptr(), s.len()) };

@@ -5,6 +5,8 @@
 //! A few bytes can stand for 4,294,967,295 readings. A call that gives a list therefore takes the most readings that the caller will hold, and is
 //! refused with 9 where there are more; `readings` of [`rle`], [`delta`] and [`boolean`] gives them one by one and holds none.
 //!
+//! A column that was cut is refused by the calls that read all of it; `salvage` of each kind keeps what stands before the fault ([`salvage`]).
+//!
 //! Names ([`text`]) are parts of the bytes that they were found in, since one that repeats stands there once.
 
 pub mod boolean;
@@ -17,6 +19,7 @@ pub mod raw;
 pub mod raw_column;
 mod readings;
 pub mod rle;
+pub mod salvage;
 pub mod splice;
 pub mod text;
 

@@ -15,6 +15,25 @@ pub struct Counted {
     pub count: u64,
 }
 
+/// What survives of a column, and its first fault, 0 of a sound one.
+#[repr(C)]
+pub struct Survey {
+    pub fault: u8,
+    pub place: usize,
+    pub readings: u64,
+}
+
+/// What a salvage came to: the call's own refusal and, apart from it, the column's first fault.
+#[repr(C)]
+pub struct Salvaged {
+    pub number: u8,
+    pub fault: u8,
+    pub place: usize,
+    pub fault_place: usize,
+    pub kept: u64,
+    pub written: usize,
+}
+
 /// What comes next in a column: `what` is `PRESENT`, `ABSENT` or `END`, and 0 in a refusal.
 #[repr(C)]
 pub struct Next<T> {
@@ -213,6 +232,55 @@ extern "C" {
         out: *mut u8,
         out_len: usize,
     ) -> Counted;
+
+    pub fn grundavok_rle_survey(s: *const u8, s_len: usize) -> Survey;
+    pub fn grundavok_delta_survey(s: *const u8, s_len: usize) -> Survey;
+    pub fn grundavok_boolean_survey(s: *const u8, s_len: usize) -> Survey;
+    pub fn grundavok_text_survey(s: *const u8, s_len: usize) -> Survey;
+    pub fn grundavok_rle_salvage(
+        typ: u8,
+        s: *const u8,
+        s_len: usize,
+        values: *mut u64,
+        values_len: usize,
+        present: *mut u8,
+        present_len: usize,
+        out: *mut u8,
+        out_len: usize,
+    ) -> Salvaged;
+    pub fn grundavok_delta_salvage(
+        typ: u8,
+        s: *const u8,
+        s_len: usize,
+        values: *mut i64,
+        values_len: usize,
+        present: *mut u8,
+        present_len: usize,
+        out: *mut u8,
+        out_len: usize,
+    ) -> Salvaged;
+    pub fn grundavok_boolean_salvage(
+        typ: u8,
+        s: *const u8,
+        s_len: usize,
+        values: *mut u8,
+        values_len: usize,
+        out: *mut u8,
+        out_len: usize,
+    ) -> Salvaged;
+    pub fn grundavok_text_salvage(
+        typ: u8,
+        s: *const u8,
+        s_len: usize,
+        starts: *mut u64,
+        starts_len: usize,
+        lens: *mut u64,
+        lens_len: usize,
+        present: *mut u8,
+        present_len: usize,
+        out: *mut u8,
+        out_len: usize,
+    ) -> Salvaged;
 
     pub fn grundavok_read_table(block: *const u8, block_len: usize) -> Opened;
     pub fn grundavok_locate(block: *const u8, block_len: usize, position: usize) -> Part;

@@ -2,10 +2,23 @@
 
 /// The calls over a column of optional readings; `delta` has the same over i64.
 macro_rules! optional_column {
-    ($element:ty, $count:ident, $decode:ident, $encoded_len:ident, $encode:ident, $cursor:ident, $new:ident, $next:ident) => {
+    (
+        $element:ty, $count:ident, $decode:ident, $encoded_len:ident, $encode:ident, $cursor:ident, $new:ident, $next:ident,
+        $survey:ident, $salvage:ident, $typ:ident
+    ) => {
         use crate::{judged, lists, raw, Refusal};
 
         crate::readings::readings!(Option<$element>, $cursor, $new, $next, lists::reading);
+
+        crate::salvage::salvage!(
+            salvage,
+            Option<$element>,
+            $survey,
+            $salvage,
+            $typ,
+            [values, present],
+            |_, values: Vec<$element>, present: Vec<u8>| lists::together(&values, &present)
+        );
 
         /// How many readings a column has, or its first fault: 1, 2, 3, 21, 5 or, of a delta column, 6. It costs what the bytes cost.
         pub fn count(s: &[u8]) -> Result<usize, Refusal> {
@@ -61,5 +74,8 @@ optional_column!(
     grundavok_rle_encode,
     RleCursor,
     grundavok_rle_cursor_new,
-    grundavok_rle_next
+    grundavok_rle_next,
+    grundavok_rle_survey,
+    grundavok_rle_salvage,
+    Integer
 );

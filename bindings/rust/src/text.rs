@@ -2,6 +2,7 @@
 
 use std::ops::Range;
 
+use crate::salvage::Salvaged;
 use crate::{judged, lists, raw_call, Refusal};
 
 /// A list of names as the boundary has it: a start, a length and a presence byte for each.
@@ -86,8 +87,7 @@ pub fn count(s: &[u8]) -> Result<usize, Refusal> {
 /// The column's names, of which the caller will hold `most`. Refusals: those of `count`; 9 where there are more. A name that repeats is copied each time,
 /// so that a short column can ask for much memory: of a column that nobody vouches for take `names`.
 pub fn decode(s: &[u8], most: usize) -> Result<Vec<Option<String>>, Refusal> {
-    let list = names(s, most)?;
-    Ok(list.into_iter().map(|name| name.map(str::to_owned)).collect())
+    names(s, most).map(owned)
 }
 
 /// The same as parts of the column, which takes no more memory for a long name than for a short one.
@@ -95,6 +95,32 @@ pub fn names(s: &[u8], most: usize) -> Result<Vec<Option<&str>>, Refusal> {
     let mut slots = Slots::new(count(s)?.min(most));
     let r = raw_call!(grundavok_text_decode, [s], (), [], [slots.starts, slots.lens, slots.present]);
     judged(r.number, r.place, named(s, slots.places()))
+}
+
+fn owned(names: Vec<Option<&str>>) -> Vec<Option<String>> {
+    names.into_iter().map(|name| name.map(str::to_owned)).collect()
+}
+
+crate::salvage::salvage!(
+    ///
+    /// The names are parts of the given column, as those of `names` are.
+    salvage_names,
+    Option<&str>,
+    grundavok_text_survey,
+    grundavok_text_salvage,
+    String,
+    [starts, lens, present],
+    |s, starts, lens, present| named(s, Slots { starts, lens, present }.places())
+);
+
+/// `salvage_names` with names of their own. One that repeats is copied each time, as in `decode`: of a column that nobody vouches for take the parts.
+pub fn salvage(s: &[u8], most: usize) -> Result<Salvaged<Option<String>>, Refusal> {
+    let Salvaged { readings, column, fault } = salvage_names(s, most)?;
+    Ok(Salvaged {
+        readings: owned(readings),
+        column,
+        fault,
+    })
 }
 
 /// How many bytes the list takes as a column. Refusal: 5.

@@ -12,6 +12,7 @@ fn calls() {
 mod calls {
     use grundavok::column_specification::{ColumnSpec, ColumnType};
     use grundavok::raw_column::{Frame, Row};
+    use grundavok::salvage::{Salvaged, Survey};
     use grundavok::{boolean, delta, leb128, raw_column, rle, splice, text, Refusal};
 
     const DEPTHS: [u8; 8] = [0x01, 0x13, 0x05, 0x7f, 0xd0, 0x00, 0x02, 0x00];
@@ -32,6 +33,24 @@ mod calls {
 
     fn refused<T>(number: u8, place: usize) -> Result<T, Refusal> {
         Err(Refusal { number, place })
+    }
+
+    /// A column's fault.
+    const fn fault(number: u8, place: usize) -> Option<Refusal> {
+        Some(Refusal { number, place })
+    }
+
+    fn survey(readings: u64, fault: Option<Refusal>) -> Survey {
+        Survey { readings, fault }
+    }
+
+    /// What was kept, the fresh column and the given one's fault.
+    fn kept<T: Clone>(readings: &[T], column: &[u8], fault: Option<Refusal>) -> Result<Salvaged<T>, Refusal> {
+        Ok(Salvaged {
+            readings: readings.to_vec(),
+            column: column.to_vec(),
+            fault,
+        })
     }
 
     /// A list, as `decode` gives it.
@@ -199,6 +218,107 @@ mod calls {
         assert_eq!(splice::splice_delta(&DEPTHS, 0, 0, 0, &[None; 6], MOST), refused(9, 0));
         let flags = [&[0x01, 0x14, 0x05][..], &FLAGS].concat();
         assert_eq!(splice::splice_boolean(&flags, 0, 0, 1, &[], MOST), refused(9, 0));
+    }
+
+    #[test]
+    fn surveys() {
+        assert_eq!(rle::survey(&[0x7e, 0x05]), survey(1, fault(21, 2)));
+        assert_eq!(rle::survey(&[0x00, 0x02, 0x7f]), survey(2, fault(21, 3)));
+        assert_eq!(rle::survey(&[0x02, 0x05, 0x02, 0x80]), survey(2, fault(1, 3)));
+        assert_eq!(
+            (rle::survey(&FIVES), rle::survey(&[])),
+            (survey(4_294_967_295, None), survey(0, None))
+        );
+        assert_eq!(delta::survey(&[0x7f, 0x05, 0x02]), survey(1, fault(21, 3)));
+        assert_eq!(delta::survey(&GAP), survey(4_294_967_295, None));
+        assert_eq!(boolean::survey(&[0x01, 0x80]), survey(1, fault(1, 1)));
+        assert_eq!(boolean::survey(&FLAGS), survey(4_294_967_295, None));
+        assert_eq!(text::survey(&[0x7e, 0x01, 0x61, 0x01, 0xff]), survey(1, fault(20, 3)));
+        assert_eq!(
+            (text::survey(&NAMES), text::survey(&EMPTY)),
+            (survey(6, None), survey(4_294_967_295, None))
+        );
+        // A cut between two runs is no fault.
+        assert_eq!(
+            (rle::survey(&[0x02, 0x05, 0x7f, 0x07]), rle::survey(&[0x02, 0x05])),
+            (survey(3, None), survey(2, None))
+        );
+    }
+
+    #[test]
+    fn salvages() {
+        assert_eq!(
+            rle::salvage(&[0x00, 0x01, 0x7d, 0x05, 0x05, 0x80], MOST),
+            kept(&[None, Some(5), Some(5)], &[0x00, 0x01, 0x02, 0x05], fault(1, 5))
+        );
+        assert_eq!(rle::salvage(&[0x7e, 0x05], 1), kept(&[Some(5)], &[0x7f, 0x05], fault(21, 2)));
+        assert_eq!(rle::salvage(&[0x00, 0x01], MOST), kept(&[None], &[], None));
+        assert_eq!(rle::salvage(&[0x02], 0), kept(&[], &[], fault(21, 1)));
+        assert_eq!(rle::salvage(&[], 0), kept(&[], &[], None));
+        assert_eq!(
+            delta::salvage(&[0x7f, 0x05, 0x00, 0x01, 0x7e, 0x01], MOST),
+            kept(&[Some(5), None, Some(6)], &[0x7f, 0x05, 0x00, 0x01, 0x7f, 0x01], fault(21, 6))
+        );
+        let sums = [0x02, 0x80, 0x80, 0x80, 0x80, 0x80, 0x80, 0x80, 0x80, 0xc0, 0x00];
+        let first = [&[0x7f][..], &sums[1..]].concat();
+        assert_eq!(delta::salvage(&sums, MOST), kept(&[Some(1 << 62)], &first, fault(6, 1)));
+        assert_eq!(boolean::salvage(&[0x01], MOST), kept(&[false], &[0x01], None));
+        assert_eq!(
+            boolean::salvage(&[0x00, 0x01, 0x02, 0x82], MOST),
+            kept(&[true, false, false], &[0x00, 0x01, 0x02], fault(1, 3))
+        );
+        // A sound column is encoded anew; one that takes more bytes than it had.
+        assert_eq!(boolean::salvage(&[0x02, 0x00, 0x03], MOST), kept(&[false; 5], &[0x05], None));
+        assert_eq!(
+            rle::salvage(&[0x7a, 0x01, 0x02, 0x02, 0x03, 0x03, 0x04], MOST),
+            kept(
+                &[Some(1), Some(2), Some(2), Some(3), Some(3), Some(4)],
+                &[0x7f, 0x01, 0x02, 0x02, 0x02, 0x03, 0x7f, 0x04],
+                None
+            )
+        );
+    }
+
+    #[test]
+    fn salvages_of_names() {
+        let names = [None, Some("é"), Some("é"), Some("ab"), Some("")];
+        let fresh = [0x00, 0x01, 0x02, 0x02, 0xc3, 0xa9, 0x7e, 0x02, 0x61, 0x62, 0x00];
+        assert_eq!(text::salvage_names(&NAMES[..12], MOST), kept(&names, &fresh, fault(1, 11)));
+        assert_eq!(
+            text::salvage(&NAMES[..12], 5),
+            kept(&names.map(|name| name.map(str::to_owned)), &fresh, fault(1, 11))
+        );
+        assert_eq!(text::salvage(&NAMES[..12], 4), refused(9, 0));
+        assert_eq!(text::salvage(&NAMES, MOST).map(|r| (r.column, r.fault)), Ok((NAMES.to_vec(), None)));
+        assert_eq!(
+            text::salvage(&[0x00, 0x02, 0x7f, 0x01], MOST),
+            kept(&[None, None], &[], fault(1, 3))
+        );
+        let given = [0x7c, 0x01, 0x61, 0x01, 0x62, 0x01, 0x62, 0x01, 0xff];
+        let kept = text::salvage_names(&given, MOST).unwrap();
+        assert_eq!(
+            (kept.fault, kept.readings[2].unwrap().as_ptr()),
+            (fault(20, 7), given[6..].as_ptr())
+        );
+        assert_eq!(text::names(&kept.column, MOST), Ok(kept.readings));
+    }
+
+    #[test]
+    fn salvages_of_more_than_the_caller_will_hold() {
+        assert_eq!(rle::salvage(&FIVES, MOST), refused(9, 0));
+        assert_eq!(
+            rle::salvage(&[0x08, 0x05, 0x02], 8),
+            kept(&[Some(5); 8], &[0x08, 0x05], fault(21, 3))
+        );
+        assert_eq!(rle::salvage(&[0x08, 0x05, 0x02], 7), refused(9, 0));
+        // What the counts announce behind the fault is not held: two billion, of which one value is there.
+        assert_eq!(
+            rle::salvage(&[0x80, 0x80, 0x80, 0x80, 0x78, 0x05], 1),
+            kept(&[Some(5)], &[0x7f, 0x05], fault(21, 6))
+        );
+        assert_eq!(delta::salvage(&GAP, MOST), refused(9, 0));
+        assert_eq!(boolean::salvage(&FLAGS, MOST), refused(9, 0));
+        assert_eq!(text::salvage(&EMPTY, MOST), refused(9, 0));
     }
 
     #[test]

@@ -1,4 +1,5 @@
 pub mod Clean
 pub mod Decoding
 pub mod Faults
+pub mod Limits
 pub mod Turning

@@ -3,18 +3,20 @@
 use Prim.Native.Nat.{ℕ, _+_, _-_, _≤_, _<_}
 use mathlib.Core.Path.{_≡_, refl, sym, _∙_, ap, subst}
 use mathlib.Core.List.{List, []}
+use native.Mathlib.Nat.{add-zero}
 use native.Mathlib.Omega.{arith}
 use lib.ListN.{length, replicate, length-replicate}
 use lib.Dec.{ltb, leb}
 use borrow.Author.Tests.{leb-true, lt-ltb, le-ltb, le-leb, lt-leb}
-use Rattle.leb128.specs.Answer.{done}
 use Rattle.leb128.specs.Got.{Got, got, bad}
 use Rattle.leb128.specs.Read.{u64At}
 use Rattle.leb128.proofs.Laws.{u64-next}
 use Rattle.encoding.specs.Limit.{limit}
-use Rattle.encoding.specs.Walk.{Run, Next, over, on, off, whole, cut, stop, onward, outcome}
+use Rattle.encoding.specs.Survivors.{surveyed, surveyOf}
+use Rattle.encoding.specs.Walk.{Run, Next, over, on, off, whole, cut, stop, onward, sound, fault}
 use Rattle.encoding.proofs.Lists.{cond-by}
-use Rattle.encoding.proofs.Walking.{Machine, rest, rest-is, owes, owes-start, owes-over, next-eq, readings-eq}
+use Rattle.encoding.proofs.Surveying.{surveys, surveys-start, surveys-off, surveys-over}
+use Rattle.encoding.proofs.Walking.{Machine, rest, rest-is, next-eq, readings-eq}
 use Rattle.boolean_decoder.specs.Turns.{Turn, turn, counted, turnAt, turnsFrom, boolTrace}
 
 -- ---- a count by how it reads
@@ -112,9 +114,15 @@ pub turns-on : (s : List ℕ) (st : Turn) → turnsFrom s st ≡ onward (turnAt 
 unfolding turnsFrom rest
 turns-on s st = rest-is (turns s) st (turnAt s st .next) refl
 
--- what counting the readings owes, at the start and where the bytes end
-pub owes-trace : (s : List ℕ) → outcome (boolTrace s) ≡ owes (turns s) (turn 0 0 0)
-owes-trace s = ap outcome (trace-rest s) ∙ owes-start (turns s) (turn 0 0 0) refl
+-- what looking the readings over owes, at the start and where the bytes end
+pub surveys-trace : (s : List ℕ) → surveyOf (boolTrace s) ≡ surveys (turns s) (turn 0 0 0)
+surveys-trace s = ap surveyOf (trace-rest s) ∙ surveys-start (turns s) (turn 0 0 0) refl
 
-pub owes-end : (s : List ℕ) (st : Turn) → length s ≤ st .at → owes (turns s) st ≡ done (st .had)
-owes-end s st l = let e = turn-end s st l in owes-over (turns s) st (next-eq e) (readings-eq e)
+pub surveys-end : (s : List ℕ) (st : Turn) → length s ≤ st .at → surveys (turns s) st ≡ surveyed (st .had) sound
+surveys-end s st l = let e = turn-end s st l in surveys-over (turns s) st (next-eq e) (readings-eq e)
+
+-- a count at fault has no readings
+pub surveys-cut : (s : List ℕ) (st : Turn) (number place : ℕ) → turnAt s st .next ≡ off number place → surveys (turns s) st ≡ surveyed (st .had) (fault number place)
+surveys-cut s st number place e =
+    let k : 0 ≡ length (turnAt s st .readings) = sym (ap length (off-none s st number place e)) in
+    surveys-off (turns s) st 0 number place e k ∙ ap (λ (n : ℕ). surveyed n (fault number place)) (add-zero (st .had))

@@ -7,12 +7,14 @@ ghost use lib.Seq.{sets};
 ghost use Rattle.leb128.specs.Got.{got};
 ghost use Rattle.encoding.specs.Cases.{answerOf};
 ghost use Rattle.encoding.specs.Limit.{limit};
+ghost use Rattle.encoding.specs.Survivors.{surveyOf, surviving};
 ghost use Rattle.encoding.specs.Walk.{outcome};
 ghost use Rattle.boolean_decoder.specs.Cases.{stepOf};
 ghost use Rattle.boolean_decoder.specs.Decoded.{Decoded};
 ghost use Rattle.boolean_decoder.specs.Turns.{turn, counted, turnAt, boolTrace};
 use encoding::Answer;
 use encoding::LIMIT;
+use encoding::Survey;
 use leb128::ParsedU64;
 
 // Behind a count: the next position, how many readings came so far, and the byte that is counted next; or the count's fault.
@@ -46,9 +48,9 @@ fn turn_at(s: &[u8], at: usize, had: u64, flag: u8) -> Step
     }
 }
 
-// How many readings a column has, or its first fault.
-pub fn count(s: &[u8]) -> Answer
-    ensures { λ r. ⌜ answerOf r ≡ outcome (boolTrace (now (s .entry))) ⌝ }
+// What survives of a column: how many readings before its first fault, and that fault. A count at fault has none.
+pub fn survey(s: &[u8]) -> Survey
+    ensures { λ r. ⌜ r ≡ surveyOf (boolTrace (now (s .entry))) ⌝ }
 {
     let mut at: usize = 0;
     let mut had: u64 = 0;
@@ -60,12 +62,31 @@ pub fn count(s: &[u8]) -> Answer
                 had = n;
                 flag = f;
             }
-            Step::Off(n, place) => {
-                return Answer::Refused(n, place);
+            Step::Off(number, place) => {
+                return Survey {
+                    readings: had,
+                    number: number,
+                    place: place,
+                };
             }
         }
     }
-    Answer::Done(had)
+    Survey {
+        readings: had,
+        number: 0,
+        place: 0,
+    }
+}
+
+// How many readings a column has, or its first fault.
+pub fn count(s: &[u8]) -> Answer
+    ensures { λ r. ⌜ answerOf r ≡ outcome (boolTrace (now (s .entry))) ⌝ }
+{
+    let found = survey(s);
+    if found.number == 0 {
+        return Answer::Done(found.readings);
+    }
+    Answer::Refused(found.number, found.place)
 }
 
 // The same byte in the slots from `from` up to `to`.
@@ -80,7 +101,7 @@ fn fill_same(values: &mut [u8], from: usize, to: usize, flag: u8)
     }
 }
 
-// The readings of a sound column into the first slots.
+// The readings before the first faulty one, into the first slots; and how the column ends.
 fn fill(s: &[u8], values: &mut [u8]) -> Answer
     requires { ⌜ length (boolTrace (now s) .readings) ≤ length (now values) ⌝ }
     ensures { λ r. ⌜ answerOf r ≡ outcome (boolTrace (now (s .entry))) ⌝ }
@@ -119,4 +140,16 @@ pub fn decode(s: &[u8], values: &mut [u8]) -> Answer
         }
         Answer::Refused(n, place) => Answer::Refused(n, place),
     }
+}
+
+// What survives of a column into lent slots: 9 where too few are lent for it, else how many readings that is.
+pub fn keep(s: &[u8], values: &mut [u8]) -> Answer
+    ensures { λ r. ⌜ Decoded (surviving (boolTrace (now (s .entry)))) (now (values .entry)) (now (values .exit)) (answerOf r) ⌝ }
+{
+    let n = survey(s).readings;
+    if n <= values.len() as u64 {
+        fill(s, values);
+        return Answer::Done(n);
+    }
+    Answer::Refused(9, 0)
 }

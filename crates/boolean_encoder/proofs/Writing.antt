@@ -11,6 +11,8 @@ use lib.ListN.{length}
 use borrow.Author.Tests.{leb-true, le-leb}
 use Rattle.leb128.specs.Answer.{Answer, done, refused, within, left}
 use Rattle.encoding.specs.Given.{badFlag, flagsJudged, listJudged, sized, Encoded}
+use Rattle.boolean_decoder.specs.Turns.{boolTrace}
+use Rattle.boolean_decoder.proofs.Clean.{read-clean}
 use Rattle.boolean_encoder.specs.Ahead.{Flags}
 
 -- ---- a list that is judged good
@@ -24,6 +26,10 @@ flags-good i (b ∷ xs) e k l = go (leb b 1) refl e (flags-good (suc i) xs) k l
     go true h z r zero l = leb-true b 1 h
     go true h z r (suc k) l = r z k (omega arith)
     go false h z r k l = let y : _≡_ {A = ℕ} 0 1 = cc in absurd (omega arith)
+
+-- what a column reads as is one
+pub read-flags : (s : List ℕ) → Flags (boolTrace s .readings)
+read-flags s = flags-good 0 (boolTrace s .readings) (read-clean s 0)
 
 pub judged-flags : (n m : ℕ) (p : List ℕ) → listJudged n p ≡ done m → Flags p
 unfolding listJudged flagsJudged

@@ -2,25 +2,29 @@
 -- Assumes nothing.
 use Prim.Native.Nat.{ℕ}
 use mathlib.Core.Path.{_≡_, ap, _∙_}
+use mathlib.Core.Bool.{Bool}
 use mathlib.Core.List.{List, map}
 use mathlib.Core.Option.{Option}
 use lib.ListN.{length}
 use Rattle.leb128.specs.Answer.{Answer, within, left}
 use Rattle.encoding.specs.Column.{Reading}
 use Rattle.encoding.specs.Given.{sized, Encoded}
-use Rattle.encoding.specs.Slots.{flagOf, decoding, Decoded}
+use Rattle.encoding.specs.Slots.{slotOf, flagOf, decoding, Decoded}
+use Rattle.encoding.specs.Survivors.{surviving}
 use Rattle.encoding.specs.Walk.{Trace, outcome}
 use Rattle.boolean_decoder.specs.Decoded.{Decoded as DecodedFlags}
 use Rattle.text.specs.Name.{startOf, lengthOf}
 use Rattle.text_decoder.specs.Slots.{decodingNames, DecodedNames}
+use Rattle.salvage.specs.Salvage.{Outcome, judged, reported, leftBy, SavedOptional, SavedTurns, SavedNames}
 use Rattle.splice.specs.Contract.{optionalEdit, OptionalSpliced, booleanEdit, BooleanSpliced, textEdit, TextSpliced}
 use Rattle.splice.specs.Edit.{answered}
 use Rattle.splice.specs.Kind.{Kind}
 use Rattle.splice.specs.declared.End.{End}
 use Rattle.splice.specs.declared.Spliced.{Spliced as Edit}
-use Rattle.capi.specs.Cases.{counted, splicedAs}
-use Rattle.capi.specs.Told.{Told, ToldEdit}
+use Rattle.capi.specs.Cases.{counted, salvagedAs, splicedAs}
+use Rattle.capi.specs.Told.{Told, ToldEdit, ToldSalvage}
 use Rattle.capi.specs.declared.Counted.{Counted}
+use Rattle.capi.specs.declared.Salvaged.{Salvaged}
 use Rattle.capi.specs.declared.Spliced.{Spliced}
 
 -- a promise that holds of one answer alone
@@ -29,6 +33,9 @@ told-one a only t = t .form ∙ ap counted (only (t .told) (t .holds))
 
 pub edit-one : {P : Edit → Type 0} {r : Spliced} (a : Edit) → ((o : Edit) → P o → o ≡ a) → ToldEdit P r → r ≡ splicedAs a
 edit-one a only t = t .form ∙ ap splicedAs (only (t .told) (t .holds))
+
+pub salvage-one : {P : Outcome → Type 0} {r : Salvaged} (a : Outcome) → ((o : Outcome) → P o → o ≡ a) → ToldSalvage P r → r ≡ salvagedAs a
+salvage-one a only t = t .form ∙ ap salvagedAs (only (t .told) (t .holds))
 
 -- decoding a column of optional readings: the answer and both slices
 module _ {R B : Type 0} {t : Trace R} {f : R → B} {g : R → ℕ} {v v′ : List B} {p p′ : List ℕ} {r : Counted} where
@@ -73,6 +80,67 @@ module _ {bytes : List ℕ} {judged : Answer} {out out′ : List ℕ} {r : Count
 
   pub encoded-output : Told (Encoded bytes judged out out′) r → out′ ≡ left (within 10 (length out) (sized bytes judged)) bytes out
   encoded-output e = e .holds .output ∙ ap (λ (o : Answer). left o bytes out) (e .holds .answer)
+
+-- a salvage of optional readings: the answer, both slices and the output
+abbrev optionalOutcome : {B : Type 0} → Bool → Trace (Reading B) → List ℕ → List B → List ℕ → List ℕ → Outcome
+optionalOutcome served t bytes v p out = reported t (judged served (decoding (surviving t) (length v) (length p)) (length bytes) (length out))
+
+module _ {B : Type 0} {served : Bool} {t : Trace (Reading B)} {nought : B} {bytes : List ℕ} {v v′ : List B} {p p′ out out′ : List ℕ}
+    {r : Salvaged} where
+  pub saved-answer : ToldSalvage (SavedOptional served t nought bytes v v′ p p′ out out′) r → r ≡ salvagedAs (optionalOutcome served t bytes v p out)
+  saved-answer = salvage-one (optionalOutcome served t bytes v p out) (λ o d. d .answer)
+
+  pub saved-values : ToldSalvage (SavedOptional served t nought bytes v v′ p p′ out out′) r
+      → v′ ≡ leftBy (optionalOutcome served t bytes v p out) (map (slotOf nought) (t .readings)) v
+  saved-values d = d .holds .values ∙ ap (λ (o : Outcome). leftBy o (map (slotOf nought) (t .readings)) v) (d .holds .answer)
+
+  pub saved-flags : ToldSalvage (SavedOptional served t nought bytes v v′ p p′ out out′) r
+      → p′ ≡ leftBy (optionalOutcome served t bytes v p out) (map flagOf (t .readings)) p
+  saved-flags d = d .holds .flags ∙ ap (λ (o : Outcome). leftBy o (map flagOf (t .readings)) p) (d .holds .answer)
+
+  pub saved-output : ToldSalvage (SavedOptional served t nought bytes v v′ p p′ out out′) r
+      → out′ ≡ leftBy (optionalOutcome served t bytes v p out) bytes out
+  saved-output d = d .holds .output ∙ ap (λ (o : Outcome). leftBy o bytes out) (d .holds .answer)
+
+-- of booleans
+abbrev turnsOutcome : Bool → Trace ℕ → List ℕ → List ℕ → List ℕ → Outcome
+turnsOutcome served t bytes v out = reported t (judged served (within 9 (length v) (outcome (surviving t))) (length bytes) (length out))
+
+module _ {served : Bool} {t : Trace ℕ} {bytes v v′ out out′ : List ℕ} {r : Salvaged} where
+  pub turns-answer : ToldSalvage (SavedTurns served t bytes v v′ out out′) r → r ≡ salvagedAs (turnsOutcome served t bytes v out)
+  turns-answer = salvage-one (turnsOutcome served t bytes v out) (λ o d. d .answer)
+
+  pub turns-values : ToldSalvage (SavedTurns served t bytes v v′ out out′) r → v′ ≡ leftBy (turnsOutcome served t bytes v out) (t .readings) v
+  turns-values d = d .holds .values ∙ ap (λ (o : Outcome). leftBy o (t .readings) v) (d .holds .answer)
+
+  pub turns-output : ToldSalvage (SavedTurns served t bytes v v′ out out′) r → out′ ≡ leftBy (turnsOutcome served t bytes v out) bytes out
+  turns-output d = d .holds .output ∙ ap (λ (o : Outcome). leftBy o bytes out) (d .holds .answer)
+
+-- of names
+abbrev namesOutcome : Bool → Trace (Reading (List ℕ)) → List ℕ → List ℕ → List ℕ → List ℕ → List ℕ → Outcome
+namesOutcome served t bytes a l p out =
+    reported t (judged served (decodingNames (surviving t) (length a) (length l) (length p)) (length bytes) (length out))
+
+module _ {served : Bool} {t : Trace (Reading (List ℕ))} {bytes a a′ l l′ p p′ out out′ : List ℕ} {r : Salvaged} where
+  pub saved-names-answer : ToldSalvage (SavedNames served t bytes a a′ l l′ p p′ out out′) r
+      → r ≡ salvagedAs (namesOutcome served t bytes a l p out)
+  saved-names-answer = salvage-one (namesOutcome served t bytes a l p out) (λ o d. d .answer)
+
+  pub saved-names-starts : ToldSalvage (SavedNames served t bytes a a′ l l′ p p′ out out′) r
+      → a′ ≡ leftBy (namesOutcome served t bytes a l p out) (map startOf (t .readings)) a
+  saved-names-starts d = d .holds .starts ∙ ap (λ (o : Outcome). leftBy o (map startOf (t .readings)) a) (d .holds .answer)
+
+  pub saved-names-lens : ToldSalvage (SavedNames served t bytes a a′ l l′ p p′ out out′) r
+      → l′ ≡ leftBy (namesOutcome served t bytes a l p out) (map lengthOf (t .readings)) l
+  saved-names-lens d = d .holds .lens ∙ ap (λ (o : Outcome). leftBy o (map lengthOf (t .readings)) l) (d .holds .answer)
+
+  pub saved-names-flags : ToldSalvage (SavedNames served t bytes a a′ l l′ p p′ out out′) r
+      → p′ ≡ leftBy (namesOutcome served t bytes a l p out) (map flagOf (t .readings)) p
+  saved-names-flags d = d .holds .flags ∙ ap (λ (o : Outcome). leftBy o (map flagOf (t .readings)) p) (d .holds .answer)
+
+  pub saved-names-output : ToldSalvage (SavedNames served t bytes a a′ l l′ p p′ out out′) r
+      → out′ ≡ leftBy (namesOutcome served t bytes a l p out) bytes out
+  saved-names-output d = d .holds .output ∙ ap (λ (o : Outcome). leftBy o bytes out) (d .holds .answer)
 
 -- an edit: its slices are fixed by the edit alone (`OptionalSpliced`, `BooleanSpliced`, `TextSpliced`), and its answer is
 pub optional-answer : {A : Type 0} {K : Kind (Option A)} {nought : A} {s : List ℕ} {position start : ℕ} {end : End} {new : List A} {flags : List ℕ}

@@ -6,6 +6,8 @@ use Rattle.leb128.specs.Got.{Got, got, bad}
 use Rattle.leb128.specs.Answer.{Answer, done, refused}
 use Rattle.column_specification.specs.Specification.{Packing, made}
 use Rattle.column_specification.specs.Specification as packing
+use Rattle.encoding.specs.declared.Survey.{Survey as RawSurvey}
+use Rattle.salvage.specs.Salvage.{Outcome, saved, refusal}
 use Rattle.raw_column.specs.declared.Table.{Table as RawTable}
 use Rattle.raw_column.specs.declared.Opened.{Opened as RawOpened}
 use Rattle.column_part.specs.declared.Part.{Part as RawPart}
@@ -15,6 +17,8 @@ use Rattle.capi.specs.declared.NumberU64.{NumberU64}
 use Rattle.capi.specs.declared.NumberI64.{NumberI64}
 use Rattle.capi.specs.declared.NumberU32.{NumberU32}
 use Rattle.capi.specs.declared.Counted.{Counted}
+use Rattle.capi.specs.declared.Survey.{Survey}
+use Rattle.capi.specs.declared.Salvaged.{Salvaged}
 use Rattle.capi.specs.declared.Specification.{Specification}
 use Rattle.capi.specs.declared.Table.{Table}
 use Rattle.capi.specs.declared.Opened.{Opened}
@@ -37,6 +41,15 @@ numberU32 (bad r place) = record { number = r; place = place; value = 0; next = 
 abbrev pub counted : Answer → Counted
 counted (done n) = record { number = 0; place = 0; count = n }
 counted (refused r place) = record { number = r; place = place; count = 0 }
+
+-- what survives of a column
+abbrev pub surveyAs : RawSurvey → Survey
+surveyAs s = record { fault = s .number; place = s .place; readings = s .readings }
+
+-- a salvage: the column's fault beside the call's own refusal
+abbrev pub salvagedAs : Outcome → Salvaged
+salvagedAs (saved kept written fault place) = record { number = 0; fault = fault; place = 0; «fault_place» = place; kept = kept; written = written }
+salvagedAs (refusal r place) = record { number = r; fault = 0; place = place; «fault_place» = 0; kept = 0; written = 0 }
 
 abbrev pub specification : Packing → Specification
 specification (made spec) = record { number = 0; place = 0; spec = spec }

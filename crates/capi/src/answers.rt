@@ -5,7 +5,8 @@ ghost use Rattle.leb128.specs.Cases.{u64Of, i64Of, u32Of};
 ghost use Rattle.leb128_writer.specs.Cases.{writtenOf};
 ghost use Rattle.column_specification.specs.Cases.{packingOf};
 ghost use Rattle.encoding.specs.Cases.{answerOf};
-ghost use Rattle.capi.specs.Cases.{numberU64, numberI64, numberU32, counted, specification, tableAs, openedAs, partAs, frameAs, splicedAs};
+ghost use Rattle.salvage.specs.Salvage.{outcomeOf};
+ghost use Rattle.capi.specs.Cases.{numberU64, numberI64, numberU32, counted, surveyAs, salvagedAs, specification, tableAs, openedAs, partAs, frameAs, splicedAs};
 ghost use Rattle.capi.specs.Cursors.{nextU64, nextI64, nextU8};
 use crate::Counted;
 use crate::Frame;
@@ -17,8 +18,10 @@ use crate::NumberU32;
 use crate::NumberU64;
 use crate::Opened;
 use crate::Part;
+use crate::Salvaged;
 use crate::Specification;
 use crate::Spliced;
+use crate::Survey;
 use crate::Table;
 use boolean_cursor::BooleanAnswer;
 use column_specification::Packed;
@@ -295,5 +298,38 @@ pub(crate) fn spliced(e: splice::Spliced) -> Spliced
         place: e.place,
         len: e.len,
         table: table(t),
+    }
+}
+
+pub(crate) fn survey(found: encoding::Survey) -> Survey
+    ensures { λ r. ⌜ r ≡ surveyAs found ⌝ }
+{
+    Survey {
+        fault: found.number,
+        place: found.place,
+        readings: found.readings,
+    }
+}
+
+pub(crate) fn salvaged(s: salvage::Salvaged) -> Salvaged
+    ensures { λ r. ⌜ r ≡ salvagedAs (outcomeOf s) ⌝ }
+{
+    match s {
+        salvage::Salvaged::Saved(kept, written, fault, fault_place) => Salvaged {
+            number: 0,
+            fault: fault,
+            place: 0,
+            fault_place: fault_place,
+            kept: kept,
+            written: written,
+        },
+        salvage::Salvaged::Refused(number, place) => Salvaged {
+            number: number,
+            fault: 0,
+            place: place,
+            fault_place: 0,
+            kept: 0,
+            written: 0,
+        },
     }
 }

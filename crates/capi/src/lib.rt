@@ -6,6 +6,7 @@ mod cursors;
 mod edits;
 mod edits_to_end;
 mod numbers;
+mod salvages;
 mod specifications;
 mod tables;
 mod texts;
@@ -42,6 +43,25 @@ pub struct Counted {
     pub number: u8,
     pub place: usize,
     pub count: u64,
+}
+
+// What survives of a column: how many readings before its first fault, and that fault, which is no refusal of the call: 0 and 0 of a sound column.
+#[repr(C)]
+pub struct Survey {
+    pub fault: u8,
+    pub place: usize,
+    pub readings: u64,
+}
+
+// What a salvage came to. `number` and `place` are the call's own refusal, as everywhere; `fault` and `fault_place` are the column's.
+#[repr(C)]
+pub struct Salvaged {
+    pub number: u8,
+    pub fault: u8,
+    pub place: usize,
+    pub fault_place: usize,
+    pub kept: u64,
+    pub written: usize,
 }
 
 // What comes next in a column that is read a reading at a time: `what` is 1 for a present reading, which has a value, 2 for an absent one and

@@ -28,7 +28,7 @@ above : (a b : ℕ) → b ≤ a → subℕ a b ≡ pos (a - b)
 above a b h = ap (λ (t : Bool). cond t (negsuc (b - suc a)) (pos (a - b))) (le-ltb a b h)
 
 -- under both outcomes of a test
-by-order : (P : Type 0) (a b : ℕ) → (a < b → P) → (b ≤ a → P) → P
+pub by-order : (P : Type 0) (a b : ℕ) → (a < b → P) → (b ≤ a → P) → P
 by-order P a b f g = go (ltb a b) refl
   where
     go : (t : Bool) → ltb a b ≡ t → P

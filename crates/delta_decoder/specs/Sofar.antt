@@ -1,6 +1,6 @@
 -- A delta column run by run: what the private functions of the reader promise one another. A sum z is kept as the unsigned number
 -- z + 2^63, so that it leaves i64 where that leaves u64. No public promise cites it.
-use Prim.Native.Nat.{ℕ, suc, _+_, _*_, _-_, _^_}
+use Prim.Native.Nat.{ℕ, zero, suc, _+_, _*_, _-_, _^_}
 use mathlib.Core.List.{List, [], _∷_}
 use mathlib.Core.Option.{Option, none, some}
 use mathlib.Core.Bool.{cond}
@@ -22,6 +22,15 @@ plus n (negsuc m) = cond (ltb m n) (some (n - suc m)) none
 unfoldable pub plusTimes : ℕ → ℤ → ℕ → Option ℕ
 plusTimes n (pos m) c = cond (ltb (n + c * m) (2 ^ 64)) (some (n + c * m)) none
 plusTimes n (negsuc m) c = cond (leb (c * suc m) n) (some (n - c * suc m)) none
+
+abbrev pub heldOn : Option ℕ → (ℕ → ℕ) → ℕ
+heldOn none k = 0
+heldOn (some m) k = k m
+
+-- how many of c times it can be added: the sums that are kept before the first that cannot
+unfoldable pub timesHeld : ℕ → ℤ → ℕ → ℕ
+timesHeld n d zero = zero
+timesHeld n d (suc c) = heldOn (plus n d) (λ m. suc (timesHeld m d c))
 
 -- the state between runs: the position, the readings so far, the sum so far
 pub record Sofar : Type 0 where

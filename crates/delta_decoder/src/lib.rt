@@ -11,6 +11,7 @@ ghost use Rattle.encoding.specs.Cases.{answerOf};
 ghost use Rattle.encoding.specs.Column.{repeated, literals};
 ghost use Rattle.encoding.specs.Limit.{limit};
 ghost use Rattle.encoding.specs.Slots.{slotOf, flagOf, Decoded, Room, Wrote};
+ghost use Rattle.encoding.specs.Survivors.{surveyOf, surviving};
 ghost use Rattle.encoding.specs.Walk.{outcome};
 ghost use Rattle.delta_decoder.specs.Cases.{stepOf};
 ghost use Rattle.delta_decoder.specs.Difference.{i64E};
@@ -24,8 +25,10 @@ use crate::sums::Sum;
 use crate::sums::add;
 use crate::sums::add_times;
 use crate::sums::sum_of;
+use crate::sums::times_held;
 use encoding::Answer;
 use encoding::Head;
+use encoding::Survey;
 use leb128::ParsedI64;
 
 // Behind a run: the next position, how many readings came so far, and their sum; or the run's fault.
@@ -88,9 +91,53 @@ fn scan_run(s: &[u8], at: usize, had: u64, n: u64) -> Step
     }
 }
 
-// How many readings a column has, or its first fault.
-pub fn count(s: &[u8]) -> Answer
-    ensures { λ r. ⌜ answerOf r ≡ outcome (deltaTrace (now (s .entry))) ⌝ }
+// How many of c literal differences from q on can be read and added to the sum `sum`, up to the first that cannot.
+fn read_literals(s: &[u8], q: usize, c: u64, sum: u64) -> u64
+    ensures { λ r. ⌜ r ≡ length (summing sum (literals i64E (now (s .entry)) 0 c q) .readings) ⌝ }
+{
+    let mut at = q;
+    let mut read: u64 = 0;
+    let mut n = sum;
+    while read < c {
+        match leb128::leb128_i64(s, at) {
+            ParsedI64::Number(d, next) => match add(n, d) {
+                Sum::Is(m) => {
+                    at = next;
+                    read += 1;
+                    n = m;
+                }
+                Sum::Outside => {
+                    return read;
+                }
+            },
+            ParsedI64::Refused(_, _) => {
+                return read;
+            }
+        }
+    }
+    read
+}
+
+// How many readings of the run at `at` stand before its fault; all, where it has none.
+fn read_run(s: &[u8], at: usize, had: u64, n: u64) -> u64
+    requires { ⌜ (at < length (now s)) × (had ≤ limit) ⌝ }
+    ensures { λ r. ⌜ r ≡ length (deltaRun (now (s .entry)) (sofar at had n) .readings) ⌝ }
+    ensures { λ r. ⌜ had + r ≤ limit ⌝ }
+{
+    match run_head::head_at(s, at, had) {
+        Head::Repeat(c, q) => match leb128::leb128_i64(s, q) {
+            ParsedI64::Number(d, _) => times_held(n, d, c),
+            ParsedI64::Refused(_, _) => 0,
+        },
+        Head::Literal(c, q) => read_literals(s, q, c, n),
+        Head::Absent(c, _) => c,
+        Head::Refused(_, _) => 0,
+    }
+}
+
+// What survives of a column: how many readings before its first fault, and that fault.
+pub fn survey(s: &[u8]) -> Survey
+    ensures { λ r. ⌜ r ≡ surveyOf (deltaTrace (now (s .entry))) ⌝ }
 {
     let mut at: usize = 0;
     let mut had: u64 = 0;
@@ -102,12 +149,32 @@ pub fn count(s: &[u8]) -> Answer
                 had = h;
                 n = m;
             }
-            Step::Off(k, place) => {
-                return Answer::Refused(k, place);
+            Step::Off(number, place) => {
+                let read = read_run(s, at, had, n);
+                return Survey {
+                    readings: had + read,
+                    number: number,
+                    place: place,
+                };
             }
         }
     }
-    Answer::Done(had)
+    Survey {
+        readings: had,
+        number: 0,
+        place: 0,
+    }
+}
+
+// How many readings a column has, or its first fault.
+pub fn count(s: &[u8]) -> Answer
+    ensures { λ r. ⌜ answerOf r ≡ outcome (deltaTrace (now (s .entry))) ⌝ }
+{
+    let found = survey(s);
+    if found.number == 0 {
+        return Answer::Done(found.readings);
+    }
+    Answer::Refused(found.number, found.place)
 }
 
 // c absent readings in the slots from `from` on.
@@ -290,4 +357,20 @@ pub fn decode(s: &[u8], values: &mut [i64], present: &mut [u8]) -> Answer
         }
         Answer::Refused(k, place) => Answer::Refused(k, place),
     }
+}
+
+// What survives of a column into lent slots: 8, then 9 where too few are lent for it, else how many readings that is.
+pub fn keep(s: &[u8], values: &mut [i64], present: &mut [u8]) -> Answer
+    ensures { λ r. ⌜ Decoded (surviving (deltaTrace (now (s .entry)))) (slotOf (pos 0)) flagOf
+        (now (values .entry)) (now (values .exit)) (now (present .entry)) (now (present .exit)) (answerOf r) ⌝ }
+{
+    if values.len() != present.len() {
+        return Answer::Refused(8, 0);
+    }
+    let n = survey(s).readings;
+    if n <= values.len() as u64 {
+        fill(s, values, present);
+        return Answer::Done(n);
+    }
+    Answer::Refused(9, 0)
 }

@@ -1,7 +1,8 @@
 // Running sums. A sum z is kept as the unsigned number z + 2^63, so that it leaves i64 just where that number leaves u64.
 ghost use mathlib.Core.Path.{_≡_};
+ghost use Prim.Native.Nat.{min};
 ghost use Rattle.delta_decoder.specs.Cases.{sumIs};
-ghost use Rattle.delta_decoder.specs.Sofar.{sumOf, plus, plusTimes};
+ghost use Rattle.delta_decoder.specs.Sofar.{sumOf, plus, plusTimes, timesHeld};
 use leb128::magnitude;
 
 const ALL: u64 = 18446744073709551615;
@@ -59,4 +60,27 @@ pub(crate) fn add_times(n: u64, d: i64, c: u64) -> Sum
         return Sum::Is(n + c * m);
     }
     Sum::Outside
+}
+
+fn smaller(a: u64, b: u64) -> u64
+    ensures { λ r. ⌜ r ≡ min a b ⌝ }
+{
+    if a <= b {
+        return a;
+    }
+    b
+}
+
+// How many of c times a difference can be added to the sum n before it leaves i64.
+pub(crate) fn times_held(n: u64, d: i64, c: u64) -> u64
+    ensures { λ r. ⌜ r ≡ timesHeld n d c ⌝ }
+{
+    let m = magnitude(d);
+    if d < 0 {
+        return smaller(c, n / (m + 1));
+    }
+    if m == 0 {
+        return c;
+    }
+    smaller(c, (ALL - n) / m)
 }

@@ -98,7 +98,7 @@ delta-eleven xs = omega (arith, column-eleven i64E i64-laws i64-ten (differences
 
 -- ---- a list that was read has differences that can be written
 
-taken-off : (z d : ℤ) → z +ℤ d -ℤ z ≡ d
+pub taken-off : (z d : ℤ) → z +ℤ d -ℤ z ≡ d
 taken-off z d = ap (λ (x : ℤ). x -ℤ z) (+ℤ-comm z d) ∙ +ℤ-negℤ-cancel d z
 
 narrow : (i : ℕ) (z : ℤ) (rs : List (Reading ℤ)) (e : Ending) → Fits i64E rs → wideAt i (differences z (map value (addUp z rs e .readings))) ≡ none

@@ -4,6 +4,7 @@ pub mod Cut
 pub mod Elements
 pub mod Faults
 pub mod Filling
+pub mod Limits
 pub mod Lists
 pub mod Looking
 pub mod StretchParts
@@ -11,8 +12,10 @@ pub mod Placing
 pub mod Presence
 pub mod Putting
 pub mod Readable
+pub mod Reading
 pub mod Running
 pub mod Sizes
+pub mod Surveying
 pub mod Via
 pub mod Walking
 pub mod Within

@@ -9,5 +9,6 @@ pub mod Limit
 pub mod Longest
 pub mod Slots
 pub mod Stretches
+pub mod Survivors
 pub mod Walk
 pub mod Writer

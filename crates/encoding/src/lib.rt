@@ -7,6 +7,13 @@ pub enum Answer {
     Refused(u8, usize),
 }
 
+// What survives of a column: how many readings stand before the first faulty one, and that fault's number and place, 0 and 0 of a sound column.
+pub struct Survey {
+    pub readings: u64,
+    pub number: u8,
+    pub place: usize,
+}
+
 // How a run begins: so many times the value at a position; so many literal values from a position on; so many absent readings, with the
 // position behind them; or a refusal's number and place.
 pub enum Head {

@@ -3,19 +3,24 @@
 // The arguments are the files. For each it writes how many records the file has and how many differ, and for the first
 // that differs its line and what was answered. A line that is no record, or longer than 65,536 bytes, differs too.
 mod boolean_edits;
+mod boolean_salvages;
 mod booleans;
 mod columns;
 mod delta_edits;
+mod delta_salvages;
 mod deltas;
 mod edits;
 mod fields;
 mod integer_edits;
+mod integer_salvages;
 mod integers;
 mod lists;
 mod name_edits;
+mod name_salvages;
 mod names;
 mod numbers;
 mod rooms;
+mod salvages;
 mod signed;
 mod specifications;
 mod states;
@@ -66,6 +71,10 @@ fn run(name: &[u8], line: &[u8], c: Cursor) -> Verdict {
         return v;
     }
     let v = names::run(name, line, c);
+    if is_known(v) {
+        return v;
+    }
+    let v = salvages::run(name, line, c);
     if is_known(v) {
         return v;
     }

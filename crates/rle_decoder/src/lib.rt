@@ -9,11 +9,13 @@ ghost use Rattle.encoding.specs.Cases.{answerOf};
 ghost use Rattle.encoding.specs.Column.{spot, repeated, literals, runAt, trace};
 ghost use Rattle.encoding.specs.Limit.{limit};
 ghost use Rattle.encoding.specs.Slots.{slotOf, flagOf, Decoded, Room, Wrote};
+ghost use Rattle.encoding.specs.Survivors.{surveyOf, surviving};
 ghost use Rattle.encoding.specs.Walk.{outcome};
 ghost use Rattle.rle_decoder.specs.Cases.{stepOf};
 ghost use Rattle.rle_decoder.specs.Word.{u64E};
 use encoding::Answer;
 use encoding::Head;
+use encoding::Survey;
 use leb128::ParsedU64;
 
 // Behind a run: the next position and how many readings came so far; or the run's fault.
@@ -66,9 +68,46 @@ fn scan_run(s: &[u8], at: usize, had: u64) -> Step
     }
 }
 
-// How many readings a column has, or its first fault.
-pub fn count(s: &[u8]) -> Answer
-    ensures { λ r. ⌜ answerOf r ≡ outcome (trace u64E (now (s .entry))) ⌝ }
+// How many of c literal values from q on can be read, up to the first that cannot.
+fn read_literals(s: &[u8], q: usize, c: u64) -> u64
+    ensures { λ r. ⌜ r ≡ length (literals u64E (now (s .entry)) 0 c q .readings) ⌝ }
+{
+    let mut at = q;
+    let mut read: u64 = 0;
+    while read < c {
+        match leb128::leb128_u64(s, at) {
+            ParsedU64::Number(_, next) => {
+                at = next;
+                read += 1;
+            }
+            ParsedU64::Refused(_, _) => {
+                return read;
+            }
+        }
+    }
+    read
+}
+
+// How many readings of the run at `at` stand before its fault; all, where it has none.
+fn read_run(s: &[u8], at: usize, had: u64) -> u64
+    requires { ⌜ (at < length (now s)) × (had ≤ limit) ⌝ }
+    ensures { λ r. ⌜ r ≡ length (runAt u64E (now (s .entry)) (spot at had) .readings) ⌝ }
+    ensures { λ r. ⌜ had + r ≤ limit ⌝ }
+{
+    match run_head::head_at(s, at, had) {
+        Head::Repeat(c, q) => match leb128::leb128_u64(s, q) {
+            ParsedU64::Number(_, _) => c,
+            ParsedU64::Refused(_, _) => 0,
+        },
+        Head::Literal(c, q) => read_literals(s, q, c),
+        Head::Absent(c, _) => c,
+        Head::Refused(_, _) => 0,
+    }
+}
+
+// What survives of a column: how many readings before its first fault, and that fault.
+pub fn survey(s: &[u8]) -> Survey
+    ensures { λ r. ⌜ r ≡ surveyOf (trace u64E (now (s .entry))) ⌝ }
 {
     let mut at: usize = 0;
     let mut had: u64 = 0;
@@ -78,12 +117,32 @@ pub fn count(s: &[u8]) -> Answer
                 at = next;
                 had = n;
             }
-            Step::Off(n, place) => {
-                return Answer::Refused(n, place);
+            Step::Off(number, place) => {
+                let read = read_run(s, at, had);
+                return Survey {
+                    readings: had + read,
+                    number: number,
+                    place: place,
+                };
             }
         }
     }
-    Answer::Done(had)
+    Survey {
+        readings: had,
+        number: 0,
+        place: 0,
+    }
+}
+
+// How many readings a column has, or its first fault.
+pub fn count(s: &[u8]) -> Answer
+    ensures { λ r. ⌜ answerOf r ≡ outcome (trace u64E (now (s .entry))) ⌝ }
+{
+    let found = survey(s);
+    if found.number == 0 {
+        return Answer::Done(found.readings);
+    }
+    Answer::Refused(found.number, found.place)
 }
 
 // The same reading in c slots from `from` on.
@@ -214,4 +273,20 @@ pub fn decode(s: &[u8], values: &mut [u64], present: &mut [u8]) -> Answer
         }
         Answer::Refused(n, place) => Answer::Refused(n, place),
     }
+}
+
+// What survives of a column into lent slots: 8, then 9 where too few are lent for it, else how many readings that is.
+pub fn keep(s: &[u8], values: &mut [u64], present: &mut [u8]) -> Answer
+    ensures { λ r. ⌜ Decoded (surviving (trace u64E (now (s .entry)))) (slotOf 0) flagOf
+        (now (values .entry)) (now (values .exit)) (now (present .entry)) (now (present .exit)) (answerOf r) ⌝ }
+{
+    if values.len() != present.len() {
+        return Answer::Refused(8, 0);
+    }
+    let n = survey(s).readings;
+    if n <= values.len() as u64 {
+        fill(s, values, present);
+        return Answer::Done(n);
+    }
+    Answer::Refused(9, 0)
 }

@@ -3,9 +3,14 @@ pub mod CertainSums
 pub mod Columns
 pub mod Due
 pub mod Examples
+pub mod Fresh
 pub mod Keeping
 pub mod Mended
 pub mod Mending
+pub mod Room
+pub mod Saving
+pub mod Sizes
+pub mod Slots
 pub mod Staying
 pub mod Sums
 pub mod Turns

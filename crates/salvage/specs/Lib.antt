@@ -1,1 +1,3 @@
+pub mod Fresh
 pub mod Kept
+pub mod Salvage

@@ -3,6 +3,10 @@
 # wedge.block, stroke.block and signs.block are made by the tool itself. cut.block is what a copy that broke off leaves, here inside a number;
 # cut-between.block ends between two numbers of a run, and cut-behind.block behind a run. In torn.block someone "mended" the
 # table of such a copy: its lengths fit again, and the first column still ends inside a number.
+# cut-integer.block, cut-boolean.block and cut-text.block are copies that broke off in a column of that kind, and of cut-long.block more readings survive
+# than the tool has room for. torn-kinds.block fits its table, and has a broken column of each kind, with refusal 6, 3, 3 and 20, behind which stand a
+# column of type 6 and one of type 7; cut-value.block broke off in that last one. Of torn-absent.block absent readings alone survive, and of
+# torn-long.block 42,300 booleans.
 # long.block has columns of many readings in few bytes: 72,500 depths and as many booleans, and 4,294,967,295 times the number 5.
 # refusals/NN.block is a small block for refusal NN of documents 01 and 02; 01-name.block ends inside a name.
 set -eu
@@ -20,6 +24,22 @@ head -c 53 wedge.block >cut-behind.block
     printf '\214\140\260\352\001\240\234\001\330\117'
     printf '\377\377\377\377\017\005'
 } >long.block
+head -c 120 wedge.block >cut-integer.block
+head -c 48 long.block >cut-boolean.block
+head -c 60 signs.block >cut-text.block
+head -c 26 long.block >cut-long.block
+{
+    printf '\006\023\016\044\005\062\007\105\015\126\003\127\003'
+    printf '\174\050\014\023\377\377\377\377\377\377\377\377\377\000'
+    printf '\002\004\203\000\005'
+    printf '\003\007\175\010\211\000\012'
+    printf '\002\002AN\000\001\176\002KI\002\377\376'
+    printf '\176\043\023'
+    printf '\310\001\052'
+} >torn-kinds.block
+head -c 57 torn-kinds.block >cut-value.block
+printf '\001\062\003\000\005\177' >torn-absent.block
+printf '\001\044\006\214\140\260\352\001\200' >torn-long.block
 cd refusals
 printf '\003\023\350' >01.block
 printf '\001\105\006\176\002AN\003K' >01-name.block

@@ -106,7 +106,10 @@ pub fn say_table_refused(path: &[u8], block: &[u8], number: u8, place: usize, de
     let p = refusals::say_of_table(files::about(path, desk), number, place);
     let q = pen::text(p, b"\n");
     if number == 14 {
-        cut::explain(q, block);
+        pen::text(
+            cut::explain(q, block),
+            b"  tablet salvage saves what it can\n",
+        );
     }
 }
 

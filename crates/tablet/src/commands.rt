@@ -5,6 +5,7 @@ use crate::help;
 use crate::make;
 use crate::pen::Desk;
 use crate::read;
+use crate::salvaging;
 use crate::show;
 use crate::sound;
 use crate::words;
@@ -13,7 +14,7 @@ use crate::words;
 pub fn run(line: &[u8], desk: Desk) -> bool {
     let name = words::word(line, 0);
     match words::index(
-        b"show\0read\0draw\0check\0edit\0make\0help\0--help\0-h\0",
+        b"show\0read\0draw\0check\0edit\0make\0salvage\0help\0--help\0-h\0",
         name,
     ) {
         0 => show::run(line, desk),
@@ -22,7 +23,8 @@ pub fn run(line: &[u8], desk: Desk) -> bool {
         3 => sound::run(line, desk),
         4 => edit::run(line, desk),
         5 => make::run(line, desk),
-        6 | 7 | 8 => help::run(desk),
+        6 => salvaging::run(line, desk),
+        7 | 8 | 9 => help::run(desk),
         _ => help::unknown(name, desk),
     }
 }

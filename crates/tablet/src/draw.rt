@@ -12,22 +12,30 @@ use crate::pen;
 use crate::pen::Desk;
 use crate::pen::Pen;
 use crate::places;
+use crate::refusals;
 use crate::rooms;
+use crate::rows;
 use crate::svg;
 use crate::terminal;
 use crate::walk;
 use crate::words;
 use decimal::HALF;
-use encoding::Answer;
 use picture::Scale;
 use picture::Stretch;
 
-// The column that is drawn: its position, and where it was found its specification and its length.
+// The column that is drawn: its position, and where it was found its specification and its length; and the break behind the readings that are drawn, by
+// the number and place of a refusal. The number is 0 where there is none.
 pub struct Subject {
     pub found: bool,
     pub position: usize,
     pub spec: u32,
     pub len: usize,
+    pub number: u8,
+    pub place: usize,
+}
+
+pub fn is_broken(s: Subject) -> bool {
+    s.number != 0
 }
 
 // The column in words.
@@ -47,17 +55,39 @@ pub fn say_subject(p: Pen, path: &[u8], s: Subject) -> Pen {
     pen::form(r, b", id %, % bytes", kinds::id(s.spec), s.len as u64, 0, 0)
 }
 
-// What is known of all its readings.
-pub fn say_facts(p: Pen, kind: Kind, all: Stretch) -> Pen {
+// What is known of all its readings, or of those before the break.
+pub fn say_facts(p: Pen, broken: bool, kind: Kind, all: Stretch) -> Pen {
     let n = total(all);
-    let q = pen::form(p, b"% readings, % absent", n as u64, all.gone as u64, 0, 0);
+    let q = say_which(pen::form(p, b"% readings", n as u64, 0, 0, 0), broken);
+    let r = pen::form(q, b", % absent", all.gone as u64, 0, 0, 0);
     if all.here == 0 {
-        return q;
+        return r;
     }
     if kinds::is_yes_no(kind) {
-        return q;
+        return r;
     }
-    say_depths(q, kind, all)
+    say_depths(r, kind, all)
+}
+
+fn say_which(p: Pen, broken: bool) -> Pen {
+    if broken {
+        return pen::text(p, b" before the break");
+    }
+    p
+}
+
+// The break in words.
+pub fn say_break(p: Pen, s: Subject) -> Pen {
+    refusals::say(pen::text(p, b"the column breaks here: "), s.number, s.place)
+}
+
+// What is said of a break that stands alone.
+pub fn say_alone(p: Pen, s: Subject) -> Pen {
+    let q = pen::text(p, b"no reading is drawn");
+    if kinds::is_served(kinds::of_spec(s.spec)) {
+        return pen::text(q, b"; tablet salvage saves what it can before a break");
+    }
+    q
 }
 
 fn say_depths(p: Pen, kind: Kind, all: Stretch) -> Pen {
@@ -102,7 +132,7 @@ fn end(out: &[u8], p: Pen, desk: Desk) -> bool {
     false
 }
 
-// A column of n readings that reads, of which `all` is known.
+// The n readings of a column, or those before its break, of which `all` is known.
 fn draw_readings(
     path: &[u8],
     s: Subject,
@@ -127,32 +157,16 @@ fn draw_readings(
     end(out, svg::picture(pen::on(fd), path, s, part, n, all), desk)
 }
 
-// A column that does not read is drawn as a break.
-fn draw_break(
-    path: &[u8],
-    s: Subject,
-    number: u8,
-    place: usize,
-    out: &[u8],
-    over: bool,
-    desk: Desk,
-) -> bool {
+// A break before which no reading is drawn.
+fn draw_break(path: &[u8], s: Subject, out: &[u8], over: bool, desk: Desk) -> bool {
     let fd = begin(out, over, desk);
     if fd < 0 {
         return false;
     }
     if out.len() == 0 {
-        return end(
-            out,
-            terminal::fracture(pen::on(fd), path, s, number, place),
-            desk,
-        );
+        return end(out, terminal::fracture(pen::on(fd), path, s), desk);
     }
-    end(
-        out,
-        svg::fracture(pen::on(fd), path, s, number, place),
-        desk,
-    )
+    end(out, svg::fracture(pen::on(fd), path, s), desk)
 }
 
 // A column that was not found in a block is drawn as a break too; why was said.
@@ -162,23 +176,10 @@ fn draw_lost(path: &[u8], c: Column, out: &[u8], over: bool, desk: Desk) -> bool
         position: c.position,
         spec: 0,
         len: 0,
+        number: c.number,
+        place: c.place,
     };
-    draw_break(path, s, c.number, c.place, out, over, desk);
-    false
-}
-
-// A break, and why.
-fn draw_refused(
-    path: &[u8],
-    s: Subject,
-    number: u8,
-    place: usize,
-    out: &[u8],
-    over: bool,
-    desk: Desk,
-) -> bool {
-    draw_break(path, s, number, place, out, over, desk);
-    column::say_refused(path, s.position, number, place, desk);
+    draw_break(path, s, out, over, desk);
     false
 }
 
@@ -194,7 +195,18 @@ fn say_names(path: &[u8], position: usize, n: u64, desk: Desk) -> bool {
     false
 }
 
-// A column of n readings, which are walked first for what is known of all of them.
+// Does a break stand alone, where n readings are before it? Names are not drawn, and no walk is so long.
+fn is_alone(s: Subject, n: u64) -> bool {
+    if !is_broken(s) {
+        return false;
+    }
+    if kinds::is_text(kinds::of_spec(s.spec)) {
+        return true;
+    }
+    n == 0 || walk::LONGEST < n
+}
+
+// A column of n readings, or so many before its break, which are walked first for what is known of all of them.
 fn draw_walked(
     path: &[u8],
     s: Subject,
@@ -204,31 +216,67 @@ fn draw_walked(
     over: bool,
     desk: Desk,
 ) -> bool {
-    if kinds::is_text(kinds::of_spec(s.spec)) {
+    if is_alone(s, n) {
+        return draw_break(path, s, out, over, desk);
+    }
+    let kind = kinds::of_spec(s.spec);
+    if kinds::is_text(kind) {
         return say_names(path, s.position, n, desk);
     }
     if walk::LONGEST < n {
         column::say_long(path, s.position, n, desk);
         return false;
     }
-    let p = places::all(part, kinds::of_spec(s.spec), n as usize);
-    if p.number != 0 {
-        return draw_refused(path, s, p.number, p.place, out, over, desk);
-    }
+    let p = places::all(part, kind, n as usize);
     draw_readings(path, s, part, n as usize, p.stretch, out, over, desk)
 }
 
-fn draw_found(path: &[u8], c: Column, part: &[u8], out: &[u8], over: bool, desk: Desk) -> bool {
-    let s = Subject {
+fn found_subject(position: usize, spec: u32, len: usize, number: u8, place: usize) -> Subject {
+    Subject {
         found: true,
-        position: c.position,
-        spec: c.spec,
-        len: part.len(),
-    };
-    match walk::count(part, kinds::of_spec(c.spec)) {
-        Answer::Done(n) => draw_walked(path, s, part, n, out, over, desk),
-        Answer::Refused(number, place) => draw_refused(path, s, number, place, out, over, desk),
+        position,
+        spec,
+        len,
+        number,
+        place,
     }
+}
+
+// A column that the table has. Where it is broken, that is said too.
+fn draw_found(path: &[u8], c: Column, part: &[u8], out: &[u8], over: bool, desk: Desk) -> bool {
+    let f = walk::survey(part, kinds::of_spec(c.spec));
+    let s = found_subject(c.position, c.spec, part.len(), f.number, f.place);
+    let drawn = draw_walked(path, s, part, f.readings, out, over, desk);
+    if f.number == 0 {
+        return drawn;
+    }
+    column::say_refused(path, c.position, f.number, f.place, desk);
+    false
+}
+
+// The break of a column of which not all bytes are there: they may read, and it breaks all the same.
+fn number_of(number: u8, whole: bool) -> u8 {
+    if whole {
+        return number;
+    }
+    if number == 0 {
+        return 14;
+    }
+    number
+}
+
+// What is there of a column in a block whose data end too early, which was said.
+fn draw_cut(path: &[u8], block: &[u8], c: Column, out: &[u8], over: bool, desk: Desk) -> bool {
+    if rows::count(block) <= c.position {
+        return draw_lost(path, c, out, over, desk);
+    }
+    let k = rows::piece_at(block, c.position);
+    let part = between(block, k.start, k.end);
+    let f = walk::survey(part, kinds::of_spec(k.spec));
+    let number = number_of(f.number, rows::is_whole(k));
+    let s = found_subject(c.position, k.spec, part.len(), number, f.place);
+    draw_walked(path, s, part, f.readings, out, over, desk);
+    false
 }
 
 fn draw_to(line: &[u8], out: &[u8], over: bool, desk: Desk) -> bool {
@@ -238,6 +286,9 @@ fn draw_to(line: &[u8], out: &[u8], over: bool, desk: Desk) -> bool {
         return false;
     }
     let path = words::word(line, 1);
+    if c.number == 14 {
+        return draw_cut(path, between(&block, 0, c.size), c, out, over, desk);
+    }
     if c.number != 0 {
         return draw_lost(path, c, out, over, desk);
     }

@@ -112,16 +112,25 @@ fn is_there(path: &[u8]) -> bool {
     true
 }
 
-// Opens the part file of a path, or says why not and answers -1. A file that is there is in the way, unless `over`.
+// May a file of this name be written? One that is there is in the way, unless `over`, and that is said.
+pub fn is_free(path: &[u8], over: bool, desk: Desk) -> bool {
+    if over {
+        return true;
+    }
+    if is_there(path) {
+        pen::text(
+            about(path, desk),
+            b"it is there already, and is left as it is; --over as the last word replaces it\n",
+        );
+        return false;
+    }
+    true
+}
+
+// Opens the part file of a path, or says why not and answers -1.
 pub fn begin(path: &[u8], over: bool, desk: Desk) -> i32 {
-    if !over {
-        if is_there(path) {
-            pen::text(
-                about(path, desk),
-                b"it is there already, and is left as it is; --over as the last word replaces it\n",
-            );
-            return -1;
-        }
+    if !is_free(path, over, desk) {
+        return -1;
     }
     let mut name = io::buffer();
     let n = part_name(path, &mut name);
@@ -164,9 +173,14 @@ fn is_kept(p: Pen) -> bool {
 
 // Writes a file, completely or not at all.
 pub fn save(path: &[u8], content: &[u8], over: bool, desk: Desk) -> bool {
+    save_both(path, content, b"", over, desk)
+}
+
+// The same for a file of two parts.
+pub fn save_both(path: &[u8], front: &[u8], rest: &[u8], over: bool, desk: Desk) -> bool {
     let fd = begin(path, over, desk);
     if fd < 0 {
         return false;
     }
-    end(path, pen::text(pen::on(fd), content), desk)
+    end(path, pen::text(pen::text(pen::on(fd), front), rest), desk)
 }

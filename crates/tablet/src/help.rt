@@ -6,14 +6,15 @@ use crate::pen::Pen;
 fn say_looking(p: Pen) -> Pen {
     pen::text(
         p,
-        b"tablet: looks at blocks of columns, draws them, edits them and makes them
+        b"tablet: looks at blocks of columns, draws them, edits them, makes them and saves what is left of them
 
   tablet show FILE             the table: a row a column, with the number of its readings or where it breaks
   tablet read FILE COLUMN [START END]
                                the readings of the column at a position, one a line, absent ones as -; of all of it, or
                                from START up to, not including, END
   tablet draw FILE COLUMN [--svg OUT [--over]]
-                               the readings as a picture: in the terminal, or as a file for a browser; names are not drawn
+                               the readings as a picture: in the terminal, or as a file for a browser; names are not drawn;
+                               of a broken column what survived, with a crack where it breaks
   tablet check FILE..          one line a file: sound, or the first refusal of each column
 ",
     )
@@ -29,6 +30,9 @@ fn say_writing(p: Pen) -> Pen {
                                a new block of columns, each TYPE:ID=READING,READING,..  as in
                                tablet make my.block delta:1=80,80,-,81 boolean:2=1,0,0 integer:3=7,7,7
                                tablet make signs.block 'text:4=AN,KI,-,\"two words\"'
+  tablet salvage FILE --to OUT [--over]
+                               a sound block of what survives in a cut or broken one: whole columns as they are, of any
+                               other the readings before its first fault; says of each what was done and what is gone
   tablet script FILE           runs each line of FILE as a command (without the word tablet; # begins a remark)
 ",
     )
@@ -44,10 +48,12 @@ A reading of a text column is a name, as it stands or in double quotes. In quote
 In a name a double quote is written twice, and \\x1f stands for the byte of these hex digits: a backslash is \\x5c. Names
 have no count. read lists names as make and edit take them, bytes that a terminal may take for a command as \\xNN. A shell
 takes quotes for its own: put the word in single quotes as well. In a script a blank between double quotes ends no word.
+A cut that falls between two runs is no fault of a column: what is left reads as a shorter one, and only the lengths in
+the table show it. salvage keeps what stands before such a cut too, and says that the column lost something.
 OUT is written completely or not at all. A file that is there already, the input among them, is left as it is, unless
 --over is the last word: then it is replaced. Blocks have at most 524,288 bytes; a column that is read or drawn
-has at most 10,000,000 readings, and one that is edited or made, or a text column that is read, 32,768. A list of names
-is given in at most 131,072 bytes.
+has at most 10,000,000 readings, and one that is edited or made, a broken one that is salvaged, or a text column that
+is read, 32,768. A list of names is given in at most 131,072 bytes.
 What goes wrong is said on standard error, and ./tablet then ends with status 1.
 ",
     )

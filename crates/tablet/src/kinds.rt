@@ -16,9 +16,14 @@ pub enum Kind {
     Unserved,
 }
 
+// The number of a type.
+pub fn number(spec: u32) -> u8 {
+    ColumnSpec(spec).col_type().as_u8()
+}
+
 // 01's types: 1 Actor, 2 Integer, 3 DeltaInteger, 4 Boolean, 5 String.
 pub fn of_spec(spec: u32) -> Kind {
-    let t = ColumnSpec(spec).col_type().as_u8();
+    let t = number(spec);
     if t == 3 {
         return Kind::Signed;
     }
@@ -59,7 +64,7 @@ pub fn is_text(kind: Kind) -> bool {
 
 // The type in words, in a field of so many places.
 pub fn say(p: Pen, spec: u32, width: usize) -> Pen {
-    let t = ColumnSpec(spec).col_type().as_u8();
+    let t = number(spec);
     let names = b"group\0actor\0integer\0delta integer\0boolean\0text\0value metadata\0value\0";
     pen::padded(p, words::word(names, t as usize), width)
 }

@@ -1,13 +1,15 @@
-// The tool a desk uses: it looks at blocks of columns, draws them, edits them and makes them. `help.rt` says how it is used.
+// The tool a desk uses: it looks at blocks of columns, draws them, edits them, makes them and saves what is left of them. `help.rt` says how it is used.
 //
 // What was asked for goes to standard output, and what went wrong to standard error: a program has no exit status, and the script
 // ./tablet makes one of that.
+mod announced;
 mod apply;
 mod column;
 mod commands;
 mod cut;
 mod draw;
 mod edit;
+mod fates;
 mod files;
 mod given;
 mod help;
@@ -24,6 +26,9 @@ mod range;
 mod read;
 mod refusals;
 mod rooms;
+mod rows;
+mod salvaging;
+mod saved;
 mod script;
 mod show;
 mod sound;

@@ -91,7 +91,7 @@ fn say_refused(text: &[u8], number: u8, desk: Desk) {
 }
 
 // A number behind those that are there.
-fn put(block: &mut [u8], at: usize, n: u64) -> usize {
+pub fn put(block: &mut [u8], at: usize, n: u64) -> usize {
     match leb128_writer::put_u64(n, block, at) {
         Written::Next(next) => next,
         Written::Refused(_, _) => STOPPED,

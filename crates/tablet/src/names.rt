@@ -10,7 +10,7 @@ use crate::parts::plus;
 use crate::pen;
 use crate::pen::Pen;
 use crate::refusals;
-use encoding::Answer;
+use encoding::Survey;
 
 const HIGH: u64 = 4294967296;
 
@@ -41,14 +41,13 @@ pub fn part_all(values: &[u64], starts: &mut [u64], lens: &mut [u64]) {
     }
 }
 
-// How many names a column has, or its first fault.
-pub fn count(part: &[u8]) -> Answer {
-    match text_decoder::count(part) {
-        Answer::Done(n) => Answer::Done(n),
-        Answer::Refused(number, place) => Answer::Refused(
-            refusals::of_names(part, number, place),
-            place,
-        ),
+// How many names stand before a column's first fault, and that fault.
+pub fn survey(part: &[u8]) -> Survey {
+    let found = text_decoder::survey(part);
+    Survey {
+        readings: found.readings,
+        number: refusals::of_names(part, found.number, found.place),
+        place: found.place,
     }
 }
 

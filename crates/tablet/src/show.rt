@@ -86,7 +86,7 @@ fn judge(path: &[u8], s: Shown, desk: Desk) -> bool {
     }
     pen::form(
         files::about(path, desk),
-        b"columns that do not read: %\n",
+        b"columns that do not read: %; tablet salvage saves what it can of them\n",
         s.bad as u64,
         0,
         0,

@@ -105,9 +105,9 @@ fn title(p: Pen, path: &[u8], s: Subject) -> Pen {
     pen::text(draw::say_subject(escaped(r, path), b"", s), b"</text>\n")
 }
 
-fn facts(p: Pen, kind: Kind, all: Stretch) -> Pen {
+fn facts(p: Pen, broken: bool, kind: Kind, all: Stretch) -> Pen {
     let q = pen::text(p, b"<text class=\"faint\" x=\"90\" y=\"49\">");
-    pen::text(draw::say_facts(q, kind, all), b"</text>\n")
+    pen::text(draw::say_facts(q, broken, kind, all), b"</text>\n")
 }
 
 // A part of a place, by its class, in units.
@@ -284,27 +284,45 @@ fn picture_of(p: Pen, part: &[u8], kind: Kind, n: usize, all: Stretch) -> Pen {
     legend(axes(r, kind, c.per, n), all.gone)
 }
 
-// A column of n readings that reads, of which `all` is known.
-pub fn picture(p: Pen, path: &[u8], s: Subject, part: &[u8], n: usize, all: Stretch) -> Pen {
-    let kind = kinds::of_spec(s.spec);
-    let q = facts(title(head(p), path, s), kind, all);
-    if all.here == 0 {
-        return pen::text(
-            q,
-            b"<text class=\"ink\" x=\"90\" y=\"200\">there is no depth to draw</text>\n</svg>\n",
-        );
+// A crack from top to bottom behind the last reading, and its line of the legend.
+fn crack(p: Pen, s: Subject) -> Pen {
+    if !draw::is_broken(s) {
+        return p;
     }
-    pen::text(picture_of(q, part, kind, n, all), b"</svg>\n")
+    let q = pen::text(
+        p,
+        b"<path class=\"crack\" d=\"M774 70l8 14-8 14 8 14-8 14 8 14-8 14 8 14-8 14 8 14-8 14 8 14-8 14 8 14-8 14 8 14-8 14 8 14-8 14 8 14-8 14\"/>
+<path class=\"crack\" d=\"M90 422l6-8 6 8 6-8 6 8\"/><text class=\"ink\" x=\"120\" y=\"422\">",
+    );
+    pen::text(draw::say_break(q, s), b"</text>\n")
 }
 
-// A column that does not read: no clay, and no reading.
-pub fn fracture(p: Pen, path: &[u8], s: Subject, number: u8, place: usize) -> Pen {
+fn drawn(p: Pen, part: &[u8], kind: Kind, n: usize, all: Stretch) -> Pen {
+    if all.here == 0 {
+        return pen::text(
+            p,
+            b"<text class=\"ink\" x=\"90\" y=\"200\">there is no depth to draw</text>\n",
+        );
+    }
+    picture_of(p, part, kind, n, all)
+}
+
+// The n readings of a column, or those before its break, of which `all` is known.
+pub fn picture(p: Pen, path: &[u8], s: Subject, part: &[u8], n: usize, all: Stretch) -> Pen {
+    let kind = kinds::of_spec(s.spec);
+    let q = facts(title(head(p), path, s), draw::is_broken(s), kind, all);
+    pen::text(crack(drawn(q, part, kind, n, all), s), b"</svg>\n")
+}
+
+// A break alone: no clay, and no reading.
+pub fn fracture(p: Pen, path: &[u8], s: Subject) -> Pen {
     let q = pen::text(
         title(head(p), path, s),
         b"<path class=\"crack\" d=\"M90 190l40 50 40-50 40 50 40-50 40 50 40-50 40 50 40-50 40 50 40-50 40 50 40-50 40 50 40-50 40 50 40-50 40 50\"/>\n<text class=\"ink\" x=\"90\" y=\"150\" font-size=\"16\">Broken: ",
     );
-    pen::text(
-        refusals::say(q, number, place),
-        b"</text>\n<text class=\"faint\" x=\"90\" y=\"290\">No reading is drawn: a column reads whole or not at all.</text>\n</svg>\n",
-    )
+    let r = pen::text(
+        refusals::say(q, s.number, s.place),
+        b"</text>\n<text class=\"faint\" x=\"90\" y=\"290\">",
+    );
+    pen::text(draw::say_alone(r, s), b"</text>\n</svg>\n")
 }

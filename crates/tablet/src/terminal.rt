@@ -62,7 +62,18 @@ fn row(p: Pen, kind: Kind, c: Scale, row: usize, stretches: [Stretch; 680]) -> P
         q = sign(q, clay(kind, picture::shade_at(c, row, s)), n);
         x += 1;
     }
-    pen::text(q, b"\n")
+    q
+}
+
+// The end of a row: a crack from top to bottom where the column breaks behind the last reading.
+fn end_row(p: Pen, broken: bool, row: usize) -> Pen {
+    if !broken {
+        return pen::text(p, b"\n");
+    }
+    if row % 2 == 0 {
+        return pen::text(p, b"\xe2\x95\xb2\n");
+    }
+    pen::text(p, b"\xe2\x95\xb1\n")
 }
 
 fn label(p: Pen, kind: Kind, c: Scale, row: usize, width: usize) -> Pen {
@@ -71,11 +82,19 @@ fn label(p: Pen, kind: Kind, c: Scale, row: usize, width: usize) -> Pen {
     pen::text(numbers::say(q, kind, depth), b" |")
 }
 
-fn rows(p: Pen, kind: Kind, c: Scale, width: usize, stretches: [Stretch; 680]) -> Pen {
+fn rows(
+    p: Pen,
+    broken: bool,
+    kind: Kind,
+    c: Scale,
+    width: usize,
+    stretches: [Stretch; 680],
+) -> Pen {
     let mut q = p;
     let mut r = 0;
     while r < c.rows {
-        q = row(label(q, kind, c, r, width), kind, c, r, stretches);
+        let drawn = row(label(q, kind, c, r, width), kind, c, r, stretches);
+        q = end_row(drawn, broken, r);
         r += 1;
     }
     q
@@ -95,7 +114,14 @@ fn ruler(p: Pen, c: Scale, stretches: [Stretch; 680]) -> Pen {
         q = sign(q, tick(s.here), n);
         x += 1;
     }
-    pen::text(q, b"\n")
+    q
+}
+
+fn end_ruler(p: Pen, broken: bool) -> Pen {
+    if broken {
+        return pen::text(p, b"\xe2\x95\xb3\n");
+    }
+    pen::text(p, b"\n")
 }
 
 // How many characters all places take.
@@ -154,35 +180,49 @@ fn label_width(kind: Kind, base: u64, high: u64) -> usize {
     if first < last { last } else { first }
 }
 
-fn picture_of(p: Pen, part: &[u8], kind: Kind, n: usize, all: Stretch) -> Pen {
+fn picture_of(p: Pen, broken: bool, part: &[u8], kind: Kind, n: usize, all: Stretch) -> Pen {
     let c = draw::scale_for(all, kind, n, WIDTH);
     let stretches = places::of_scale(part, kind, c);
     let width = label_width(kind, c.base, all.high);
-    let q = rows(p, kind, c, width, stretches);
-    let r = ruler(pen::blanks(q, width), c, stretches);
+    let q = rows(p, broken, kind, c, width, stretches);
+    let r = end_ruler(ruler(pen::blanks(q, width), c, stretches), broken);
     let t = indices(pen::blanks(r, width), c, n);
     legend(t, kind, c, all.gone)
 }
 
-// A column of n readings that reads, of which `all` is known.
-pub fn picture(p: Pen, path: &[u8], s: Subject, part: &[u8], n: usize, all: Stretch) -> Pen {
-    let kind = kinds::of_spec(s.spec);
-    let q = pen::text(draw::say_subject(p, path, s), b"\n");
-    let r = draw::say_facts(q, kind, all);
-    if all.here == 0 {
-        return pen::text(r, b"\nthere is no depth to draw\n");
+// The crack's line of the legend.
+fn say_crack(p: Pen, s: Subject) -> Pen {
+    if !draw::is_broken(s) {
+        return p;
     }
-    picture_of(pen::text(r, b"\n\n"), part, kind, n, all)
+    let q = pen::text(p, b"\xe2\x95\xb2\xe2\x95\xb1: ");
+    pen::text(draw::say_break(q, s), b"\n")
 }
 
-// A column that does not read: no clay, and no reading.
-pub fn fracture(p: Pen, path: &[u8], s: Subject, number: u8, place: usize) -> Pen {
+// The n readings of a column, or those before its break, of which `all` is known.
+pub fn picture(p: Pen, path: &[u8], s: Subject, part: &[u8], n: usize, all: Stretch) -> Pen {
+    let kind = kinds::of_spec(s.spec);
+    let broken = draw::is_broken(s);
+    let q = pen::text(draw::say_subject(p, path, s), b"\n");
+    let r = draw::say_facts(q, broken, kind, all);
+    if all.here == 0 {
+        return say_crack(pen::text(r, b"\nthere is no depth to draw\n"), s);
+    }
+    say_crack(
+        picture_of(pen::text(r, b"\n\n"), broken, part, kind, n, all),
+        s,
+    )
+}
+
+// A break alone: no clay, and no reading.
+pub fn fracture(p: Pen, path: &[u8], s: Subject) -> Pen {
     let q = pen::text(
         draw::say_subject(p, path, s),
         b"\n\n  /\\/\\/\\/\\/\\/\\/\\/\\/\\/\\/\\/\\/\\/\\/\\/\\/\\/\\/\\/\\\n  BROKEN: ",
     );
-    pen::text(
-        refusals::say(q, number, place),
-        b"\n  \\/\\/\\/\\/\\/\\/\\/\\/\\/\\/\\/\\/\\/\\/\\/\\/\\/\\/\\/\\/\n\nno reading is drawn: a column reads whole or not at all\n",
-    )
+    let r = pen::text(
+        refusals::say(q, s.number, s.place),
+        b"\n  \\/\\/\\/\\/\\/\\/\\/\\/\\/\\/\\/\\/\\/\\/\\/\\/\\/\\/\\/\\/\n\n",
+    );
+    pen::text(draw::say_alone(r, s), b"\n")
 }

@@ -9,6 +9,7 @@ use delta_cursor::DeltaAnswer;
 use delta_cursor::DeltaCursor;
 use delta_cursor::DeltaStepped;
 use encoding::Answer;
+use encoding::Survey;
 use rle_cursor::RleAnswer;
 use rle_cursor::RleCursor;
 use rle_cursor::RleStepped;
@@ -31,15 +32,28 @@ pub enum Walked {
     Over(u8, usize),
 }
 
-// How many readings a column has, or its first fault. Where there is none, a walk comes to the end.
-pub fn count(part: &[u8], kind: Kind) -> Answer {
+// How many readings stand before a column's first fault, and that fault. The number is 0 where there is none. A walk comes so far.
+pub fn survey(part: &[u8], kind: Kind) -> Survey {
     match kind {
-        Kind::Signed => delta_decoder::count(part),
-        Kind::Unsigned => rle_decoder::count(part),
-        Kind::YesNo => boolean_decoder::count(part),
-        Kind::Text => names::count(part),
-        Kind::Unserved => Answer::Refused(17, 0),
+        Kind::Signed => delta_decoder::survey(part),
+        Kind::Unsigned => rle_decoder::survey(part),
+        Kind::YesNo => boolean_decoder::survey(part),
+        Kind::Text => names::survey(part),
+        Kind::Unserved => Survey {
+            readings: 0,
+            number: 17,
+            place: 0,
+        },
     }
+}
+
+// How many readings a column has, or its first fault.
+pub fn count(part: &[u8], kind: Kind) -> Answer {
+    let found = survey(part, kind);
+    if found.number == 0 {
+        return Answer::Done(found.readings);
+    }
+    Answer::Refused(found.number, found.place)
 }
 
 // Before the first reading. Names are not walked.

@@ -9,6 +9,7 @@ ghost use Rattle.encoding.specs.Cases.{answerOf};
 ghost use Rattle.encoding.specs.Column.{spot, repeated, literals, runAt, trace};
 ghost use Rattle.encoding.specs.Limit.{limit};
 ghost use Rattle.encoding.specs.Slots.{flagOf, Room, Wrote};
+ghost use Rattle.encoding.specs.Survivors.{surveyOf, surviving};
 ghost use Rattle.encoding.specs.Walk.{outcome};
 ghost use Rattle.text.specs.Name.{startOf, lengthOf};
 ghost use Rattle.text.specs.Text.{valued, textAt, textE};
@@ -16,10 +17,11 @@ ghost use Rattle.text_decoder.specs.Cases.{nameOf, stepOf};
 ghost use Rattle.text_decoder.specs.Slots.{DecodedNames};
 use encoding::Answer;
 use encoding::Head;
+use encoding::Survey;
 use leb128::ParsedU64;
 
 // Where a name stands: its first byte and its length; or a refusal's number and place.
-enum Name {
+pub enum Name {
     Found(usize, usize),
     Refused(u8, usize),
 }
@@ -49,7 +51,7 @@ fn name_behind(s: &[u8], at: usize, q: usize, n: u64) -> Name
 }
 
 // The name whose length number stands at `at`.
-fn name_at(s: &[u8], at: usize) -> Name
+pub fn name_at(s: &[u8], at: usize) -> Name
     ensures { λ r. ⌜ nameOf (now (s .entry)) r ≡ textAt (now (s .entry)) at ⌝ }
 {
     match leb128::leb128_u64(s, at) {
@@ -102,9 +104,46 @@ fn scan_run(s: &[u8], at: usize, had: u64) -> Step
     }
 }
 
-// How many readings a column has, or its first fault.
-pub fn count(s: &[u8]) -> Answer
-    ensures { λ r. ⌜ answerOf r ≡ outcome (trace textE (now (s .entry))) ⌝ }
+// How many of c literal values from q on can be read, up to the first that cannot.
+fn read_literals(s: &[u8], q: usize, c: u64) -> u64
+    ensures { λ r. ⌜ r ≡ length (literals textE (now (s .entry)) 0 c q .readings) ⌝ }
+{
+    let mut at = q;
+    let mut read: u64 = 0;
+    while read < c {
+        match name_at(s, at) {
+            Name::Found(start, len) => {
+                at = start + len;
+                read += 1;
+            }
+            Name::Refused(_, _) => {
+                return read;
+            }
+        }
+    }
+    read
+}
+
+// How many readings of the run at `at` stand before its fault; all, where it has none.
+fn read_run(s: &[u8], at: usize, had: u64) -> u64
+    requires { ⌜ (at < length (now s)) × (had ≤ limit) ⌝ }
+    ensures { λ r. ⌜ r ≡ length (runAt textE (now (s .entry)) (spot at had) .readings) ⌝ }
+    ensures { λ r. ⌜ had + r ≤ limit ⌝ }
+{
+    match run_head::head_at(s, at, had) {
+        Head::Repeat(c, q) => match name_at(s, q) {
+            Name::Found(_, _) => c,
+            Name::Refused(_, _) => 0,
+        },
+        Head::Literal(c, q) => read_literals(s, q, c),
+        Head::Absent(c, _) => c,
+        Head::Refused(_, _) => 0,
+    }
+}
+
+// What survives of a column: how many readings before its first fault, and that fault.
+pub fn survey(s: &[u8]) -> Survey
+    ensures { λ r. ⌜ r ≡ surveyOf (trace textE (now (s .entry))) ⌝ }
 {
     let mut at: usize = 0;
     let mut had: u64 = 0;
@@ -114,12 +153,32 @@ pub fn count(s: &[u8]) -> Answer
                 at = next;
                 had = n;
             }
-            Step::Off(n, place) => {
-                return Answer::Refused(n, place);
+            Step::Off(number, place) => {
+                let read = read_run(s, at, had);
+                return Survey {
+                    readings: had + read,
+                    number: number,
+                    place: place,
+                };
             }
         }
     }
-    Answer::Done(had)
+    Survey {
+        readings: had,
+        number: 0,
+        place: 0,
+    }
+}
+
+// How many readings a column has, or its first fault.
+pub fn count(s: &[u8]) -> Answer
+    ensures { λ r. ⌜ answerOf r ≡ outcome (trace textE (now (s .entry))) ⌝ }
+{
+    let found = survey(s);
+    if found.number == 0 {
+        return Answer::Done(found.readings);
+    }
+    Answer::Refused(found.number, found.place)
 }
 
 // The same reading in c slots from `from` on.
@@ -303,4 +362,23 @@ pub fn decode(s: &[u8], starts: &mut [u64], lens: &mut [u64], present: &mut [u8]
         }
         Answer::Refused(n, place) => Answer::Refused(n, place),
     }
+}
+
+// What survives of a column into lent slots: 8, then 9 where too few are lent for it, else how many readings that is.
+pub fn keep(s: &[u8], starts: &mut [u64], lens: &mut [u64], present: &mut [u8]) -> Answer
+    ensures { λ r. ⌜ DecodedNames (surviving (trace textE (now (s .entry)))) (now (starts .entry)) (now (starts .exit))
+        (now (lens .entry)) (now (lens .exit)) (now (present .entry)) (now (present .exit)) (answerOf r) ⌝ }
+{
+    if starts.len() != lens.len() {
+        return Answer::Refused(8, 0);
+    }
+    if lens.len() != present.len() {
+        return Answer::Refused(8, 0);
+    }
+    let n = survey(s).readings;
+    if n <= lens.len() as u64 {
+        fill(s, starts, lens, present);
+        return Answer::Done(n);
+    }
+    Answer::Refused(9, 0)
 }

@@ -13,9 +13,11 @@ use crate::random::Random;
 
 pub const KIND: Kind = Kind {
     calls: "boolean",
+    types: &[4],
     slices: 1,
     stretches: 9_000,
     walk,
+    rewrite,
 };
 
 fn walk(column: &[u8]) -> Option<Walked> {
@@ -34,6 +36,12 @@ fn announced(mut rest: &[u8]) -> u128 {
 
 fn slices(list: &[bool]) -> Slices {
     vec![list.iter().map(|&value| value.into()).collect()]
+}
+
+/// In the plain form.
+fn rewrite(_: &[u8], list: &Slices) -> Vec<u8> {
+    let list: Vec<bool> = list[0].iter().map(|&value| value == 1).collect();
+    boolean::encode(&list)
 }
 
 /// Both forms of writing.

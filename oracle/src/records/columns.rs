@@ -15,14 +15,18 @@ pub const MOST: usize = 17_000;
 /// Document 01's limit of a list.
 pub const LIMIT: u128 = 4_294_967_295;
 
-/// A kind of columns: its calls and what the crate reads.
+/// A kind of columns: its calls, and what the crate reads and writes.
 pub struct Kind {
     pub calls: &'static str,
+    /// the types of such columns
+    pub types: &'static [u64],
     pub slices: usize,
     /// of how many different stretches a list is at most: a line has to hold it
     pub stretches: usize,
     /// what the crate's decoder gives, at most `MOST` readings; None where the column is outside the records
     pub walk: fn(&[u8]) -> Option<Walked>,
+    /// what the crate's encoder makes of readings of a column
+    pub rewrite: fn(&[u8], &Slices) -> Vec<u8>,
 }
 
 /// A walk, its readings by their slices.

@@ -11,9 +11,12 @@ use crate::random::Random;
 pub const COLUMN: Optional = Optional {
     kind: Kind {
         calls: "delta",
+        types: &[3],
         slices: 2,
         stretches: 300,
         walk,
+        // the differences were read, so that none of them leaves i64
+        rewrite: |_, list| encode(&optional::list(list)).unwrap(),
     },
     // 1 and 2 behind one another have the same difference; -300
     few: &[1, 2, (-300i64) as u64],

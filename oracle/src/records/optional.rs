@@ -37,6 +37,14 @@ fn slices(list: &[Option<u64>], mut absent: impl FnMut(u64) -> u64) -> Slices {
     vec![values, present]
 }
 
+/// The list by its slices, read back.
+pub fn list(slices: &Slices) -> Vec<Option<u64>> {
+    let readings = slices[0].iter().zip(&slices[1]);
+    readings
+        .map(|(value, present)| (*present == 1).then_some(*value))
+        .collect()
+}
+
 pub fn lists(out: &mut String, options: &Options, random: &mut Random, column: &Optional) {
     let calls = column.kind.calls;
     let most = if options.lean { 5 } else { 6 };

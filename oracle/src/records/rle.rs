@@ -11,9 +11,11 @@ use crate::rle;
 pub const COLUMN: Optional = Optional {
     kind: Kind {
         calls: "rle",
+        types: &[1, 2],
         slices: 2,
         stretches: 9_000,
         walk,
+        rewrite: |_, list| rle::encode(&optional::list(list)),
     },
     few: &[1, 2, 300],
     encode: |list| Ok(rle::encode(list)),

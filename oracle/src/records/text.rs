@@ -14,10 +14,21 @@ use crate::Refusal;
 
 pub const KIND: Kind = Kind {
     calls: "text",
+    types: &[5],
     slices: 3,
     stretches: 3_000,
     walk,
+    rewrite,
 };
+
+/// The names stand in the column.
+fn rewrite(column: &[u8], list: &Slices) -> Vec<u8> {
+    let names = Names {
+        bytes: column.to_vec(),
+        slices: list.clone(),
+    };
+    names.encoding().unwrap()
+}
 
 /// A name inside a column: its length, and the bytes that it takes with its length number.
 fn name_at(bytes: &[u8]) -> Reading {
@@ -402,23 +413,48 @@ pub fn lists(out: &mut String, options: &Options, random: &mut Random) {
 }
 
 /// The bytes at which the rules turn: counts, lengths, and what a name is made of.
-const ALPHABET: [u8; 10] = [0x00, 0x01, 0x02, 0x61, 0x7e, 0x7f, 0x80, 0xa9, 0xc3, 0xff];
+pub const ALPHABET: [u8; 10] = [0x00, 0x01, 0x02, 0x61, 0x7e, 0x7f, 0x80, 0xa9, 0xc3, 0xff];
+
+/// A name of every length of UTF-8, and its wrong neighbours, repeated, literal and behind another.
+pub fn telling_columns() -> Vec<Vec<u8>> {
+    let columns = |name: Vec<u8>| {
+        let value = [write_u64(name.len() as u64), name].concat();
+        [
+            [&[2], &value[..]].concat(),
+            [&[0x7e, 1, 0x61], &value[..]].concat(),
+            [&[0x7e], &value[..], &[1, 0xff]].concat(),
+        ]
+    };
+    telling().into_iter().flat_map(columns).collect()
+}
+
+pub fn long_columns() -> Vec<Vec<u8>> {
+    let bytes = |list: Vec<Name>| {
+        let column = text::encode(&list);
+        (column.len() < 1000 || list.len() < 5).then_some(column)
+    };
+    long_lists().into_iter().filter_map(bytes).collect()
+}
+
+/// A column of the crate's, or a wasteful one.
+pub fn chance_column(random: &mut Random) -> Vec<u8> {
+    match random.below(2) {
+        0 => {
+            let length = random.below(12);
+            text::encode(&chance(length, random))
+        }
+        _ => wasteful(random),
+    }
+}
 
 pub fn bytes(out: &mut String, options: &Options, random: &mut Random) {
     comment(out, "the strings and the refusals 1, 2, 3, 14 (not UTF-8, by Rust's own test) and 15 are those of the crate's decoder over strings; starts, each held to the crate's string, 8 and 9 are document 02's");
     let most = if options.lean { 3 } else { 5 };
     all_columns(out, &KIND, &ALPHABET, most, &READ);
     comment(out, "every length of UTF-8, and its wrong neighbours, repeated, literal and behind another, cut at every byte");
-    for name in telling() {
-        let value = [write_u64(name.len() as u64), name].concat();
-        for column in [
-            [&[2], &value[..]].concat(),
-            [&[0x7e, 1, 0x61], &value[..]].concat(),
-            [&[0x7e], &value[..], &[1, 0xff]].concat(),
-        ] {
-            for end in 1..=column.len() {
-                read(out, &KIND, &column[..end]);
-            }
+    for column in telling_columns() {
+        for end in 1..=column.len() {
+            read(out, &KIND, &column[..end]);
         }
     }
     comment(
@@ -436,24 +472,15 @@ pub fn bytes(out: &mut String, options: &Options, random: &mut Random) {
         out,
         "the crate's columns of long runs and long names, and those cut by a byte",
     );
-    for list in long_lists() {
-        let column = text::encode(&list);
-        if column.len() < 1000 || list.len() < 5 {
-            read(out, &KIND, &column);
-            read(out, &KIND, &column[..column.len().saturating_sub(1)]);
-        }
+    for column in long_columns() {
+        read(out, &KIND, &column);
+        read(out, &KIND, &column[..column.len().saturating_sub(1)]);
     }
     let all = [write_i64(5), write_u64(16_384), b"a".repeat(16_384)].concat();
     read(out, &KIND, &all);
     comment(out, "by chance: the crate's columns, and wasteful ones; each cut at every byte, and with bytes changed");
     for _ in 0..options.count {
-        let column = match random.below(2) {
-            0 => {
-                let length = random.below(12);
-                text::encode(&chance(length, random))
-            }
-            _ => wasteful(random),
-        };
+        let column = chance_column(random);
         // one in few of those that a long name makes long
         if column.len() < 100 || random.below(20) == 0 {
             damaged(out, &KIND, &column, random);

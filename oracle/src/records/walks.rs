@@ -3,45 +3,21 @@
 //! (`tests/traps.rs`). The crate's states are not ours, and stand as `*`.
 
 use super::columns::{all_columns, changed, Kind, Recorded, Slices, Walked, LIMIT};
-use super::{boolean as booleans, comment, delta as deltas, optional, rle as integers};
-use super::{Options, Record};
+use super::kinds::{Columns, BOOLEANS, DELTAS, INTEGERS};
+use super::{comment, Options, Record};
 use crate::numbers::{write_i64, write_u64};
 use crate::random::Random;
 use crate::TOO_MANY;
 
-/// The columns of a kind.
-struct Columns {
-    kind: &'static Kind,
-    /// the bytes at which the rules turn
-    alphabet: &'static [u8],
-    long: fn() -> Vec<Vec<u8>>,
-    /// columns of so many readings that are equal
-    huge: fn(u64) -> Vec<Vec<u8>>,
-    chance: fn(&mut Random) -> Vec<u8>,
-}
+/// Columns of so many readings that are equal.
+type Huge = fn(u64) -> Vec<Vec<u8>>;
 
-const COLUMNS: [Columns; 3] = [
-    Columns {
-        kind: &integers::COLUMN.kind,
-        alphabet: &optional::ALPHABET,
-        long: || optional::long_columns(&integers::COLUMN),
-        huge: huge_runs,
-        chance: |random| optional::chance_column(&integers::COLUMN, random),
-    },
-    Columns {
-        kind: &deltas::COLUMN.kind,
-        alphabet: &optional::ALPHABET,
-        long: || optional::long_columns(&deltas::COLUMN),
-        huge: huge_runs,
-        chance: |random| optional::chance_column(&deltas::COLUMN, random),
-    },
-    Columns {
-        kind: &booleans::KIND,
-        alphabet: &booleans::ALPHABET,
-        long: booleans::long_columns,
-        huge: |count| vec![write_u64(count), [vec![0], write_u64(count)].concat()],
-        chance: booleans::chance_column,
-    },
+const WALKS: [(&Columns, Huge); 3] = [
+    (&INTEGERS, huge_runs),
+    (&DELTAS, huge_runs),
+    (&BOOLEANS, |count| {
+        vec![write_u64(count), [vec![0], write_u64(count)].concat()]
+    }),
 ];
 
 /// Absent readings, and a value that repeats: 0, of which a delta column's sums are equal.
@@ -109,7 +85,7 @@ fn walk_by_chance(out: &mut String, kind: &Kind, column: &[u8], random: &mut Ran
 /// All columns of few bytes, long runs, counts near the limit, and by chance.
 pub fn all(out: &mut String, options: &Options, random: &mut Random) {
     comment(out, "the readings, the end, also when asked again, and the first refusal (1, 2, 3 or 15) are those of the crate's decoders, over strict numbers; 6, and that a refusal comes again, are document 02's");
-    for columns in &COLUMNS {
+    for (columns, huge) in WALKS {
         let kind = columns.kind;
         let most = if options.lean { 3 } else { 5 };
         all_columns(out, kind, columns.alphabet, most, &WALKED);
@@ -124,7 +100,7 @@ pub fn all(out: &mut String, options: &Options, random: &mut Random) {
             "counts of more readings than the crate is asked for, up to the limit",
         );
         for count in [1 << 15, 1 << 20, (1 << 31) - 1, 1 << 31, LIMIT as u64] {
-            for column in (columns.huge)(count) {
+            for column in huge(count) {
                 walk(out, kind, &column);
                 walk_by_chance(out, kind, &column, random);
             }

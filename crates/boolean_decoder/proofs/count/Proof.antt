@@ -1,69 +1,18 @@
--- `boolean_decoder::count` meets its contract: each count owes the same answer as the start. Assumes nothing.
-use Prim.Native.Nat.{_-_, _≤_}
-use mathlib.Core.Path.{_≡_, refl, sym, _∙_}
-use native.Mathlib.Omega.{arith}
+-- `boolean_decoder::count` meets its contract: no fault has the number 0, so the survey's number says how the column ends. Assumes nothing.
 use borrow.Author.Needs.{needs}
-use lib.ListN.{length}
-use Rattle.encoding.specs.Limit.{limit}
-use Rattle.encoding.proofs.Via.{via}
-use Rattle.encoding.proofs.Walking.{owes, owes-on, owes-off}
-use Rattle.boolean_decoder.specs.Cases.{stepOf}
-use Rattle.boolean_decoder.specs.Turns.{turn}
-use Rattle.boolean_decoder.proofs.Turning.{turns, turned, owes-trace, owes-end}
+use Rattle.encoding.proofs.Surveying.{survey-sound, survey-fault}
+use Rattle.boolean_decoder.proofs.Faults.{boolean-numbered}
 use Rattle.boolean_decoder.proofs.count.Statement.{statement}
 use Rattle.boolean_decoder.proofs.count.Tie as tie
 
-abbrev Inv-loop : tie.InvT-loop
-Inv-loop s at₀ had₀ flag₀ at had flag = (had ≤ limit) × (flag ≤ 1) × (owes (turns s) (turn 0 0 0) ≡ owes (turns s) (turn at had flag))
+survey-requires : tie.Need-survey-requires
+survey-requires c κs = search needs
 
-abbrev μ-loop : tie.MeasureT-loop
-μ-loop s at₀ had₀ flag₀ at had flag = length s - at
+returns : tie.Need-returns
+returns c = survey-sound _ _ (c .before .before .survey .ensures) (boolean-numbered _) (c .if1 .taken)
 
-loop-holds : tie.Need-loop-holds Inv-loop μ-loop
-loop-holds c = (omega arith, omega arith, refl)
-
-turn-at-requires : tie.Need-turn-at-requires Inv-loop μ-loop
-turn-at-requires c κs = (c .loop-test .taken, c .before .loop .inv .0, c .before .loop .inv .1)
-
-enum-known-next : tie.Need-enum-known-next Inv-loop μ-loop
-enum-known-next c = search needs
-
-loop-less : tie.Need-loop-less Inv-loop μ-loop
-loop-less c =
-    let loop-test = c .before .before .before .before .loop-test in
-    let turn-at = c .before .before .before .turn-at in
-    let h = turned _ _ _ (via stepOf (turn-at .ensures) (c .before .next .given .1)) in
-    omega (arith, h .ahead, loop-test .taken)
-
-loop-again : tie.Need-loop-again Inv-loop μ-loop
-loop-again c =
-    let e = via stepOf (c .before .before .before .turn-at .ensures) (c .before .next .given .1) in
-    let h = turned _ _ _ e in
-    (h .capped, omega (arith, h .other), c .before .before .before .before .before .loop .inv .2 ∙ owes-on (turns _) _ _ e)
-
-enum-known-n : tie.Need-enum-known-n Inv-loop μ-loop
-enum-known-n c = search needs
-
-returns : tie.Need-returns Inv-loop μ-loop
-returns c =
-    let loop = c .before .before .before .before .before .loop in
-    let turn-at = c .before .before .before .turn-at in
-    sym (owes-trace _ ∙ loop .inv .2 ∙ owes-off (turns _) _ _ _ (via stepOf (turn-at .ensures) (c .before .n .given .1)))
-
-returns-2 : tie.Need-returns-2 Inv-loop μ-loop
-returns-2 c = sym (owes-trace _ ∙ c .before .loop .inv .2 ∙ owes-end _ _ (c .loop-test .left))
+returns-2 : tie.Need-returns-2
+returns-2 c = survey-fault _ _ (c .before .before .survey .ensures) (c .if1 .left)
 
 pub count-spec : {M : Type 1} → statement M
-count-spec =
-    tie.close
-    (tie.spec
-    Inv-loop
-    μ-loop
-    loop-holds
-    turn-at-requires
-    enum-known-next
-    loop-less
-    loop-again
-    enum-known-n
-    returns
-    returns-2)
+count-spec = tie.close (tie.spec survey-requires returns returns-2)

@@ -1,67 +1,18 @@
--- `delta_decoder::count` meets its contract: the answer owed at each run's start is the one owed at the column's. Assumes nothing.
-use Prim.Native.Nat.{_-_, _^_, _≤_}
-use mathlib.Core.Path.{_≡_, refl, sym, _∙_}
-use native.Mathlib.Omega.{arith}
-use lib.ListN.{length}
+-- `delta_decoder::count` meets its contract: no fault has the number 0, so the survey's number says how the column ends. Assumes nothing.
 use borrow.Author.Needs.{needs}
-use Rattle.encoding.specs.Limit.{limit}
-use Rattle.encoding.proofs.Via.{via}
-use Rattle.encoding.proofs.Walking.{next-eq, readings-eq, owes, owes-start, owes-on, owes-off, owes-over}
-use Rattle.delta_decoder.specs.Cases.{stepOf}
-use Rattle.delta_decoder.specs.Sofar.{sofar}
-use Rattle.delta_decoder.proofs.Deltas.{deltas, delta-rest, delta-end}
+use Rattle.encoding.proofs.Surveying.{survey-sound, survey-fault}
+use Rattle.delta_decoder.proofs.Faults.{delta-numbered}
 use Rattle.delta_decoder.proofs.count.Statement.{statement}
 use Rattle.delta_decoder.proofs.count.Tie as tie
 
-abbrev Inv-loop : tie.InvT-loop
-Inv-loop s at₀ had₀ n₀ at had n = (had ≤ limit) × (owes (deltas s) (sofar 0 0 (2 ^ 63)) ≡ owes (deltas s) (sofar at had n))
+survey-requires : tie.Need-survey-requires
+survey-requires c κs = search needs
 
-abbrev μ-loop : tie.MeasureT-loop
-μ-loop s at₀ had₀ n₀ at had n = length s - at
+returns : tie.Need-returns
+returns c = survey-sound _ _ (c .before .before .survey .ensures) (delta-numbered _) (c .if1 .taken)
 
-loop-holds : tie.Need-loop-holds Inv-loop μ-loop
-loop-holds c = (omega arith, refl)
-
-scan-run-requires : tie.Need-scan-run-requires Inv-loop μ-loop
-scan-run-requires c κs = search needs
-
-enum-known-next : tie.Need-enum-known-next Inv-loop μ-loop
-enum-known-next c = search needs
-
-loop-less : tie.Need-loop-less Inv-loop μ-loop
-loop-less c = deltas _ .falls _ _ (via stepOf (c .before .before .before .scan-run .ensures) (c .before .next .given .1))
-
-loop-again : tie.Need-loop-again Inv-loop μ-loop
-loop-again c =
-    let b = c .before .before .before in
-    let e = via stepOf (b .scan-run .ensures) (c .before .next .given .1) in
-    (deltas _ .capped _ _ e, b .before .before .loop .inv .1 ∙ owes-on (deltas _) _ _ e)
-
-enum-known-k : tie.Need-enum-known-k Inv-loop μ-loop
-enum-known-k c = search needs
-
-returns : tie.Need-returns Inv-loop μ-loop
-returns c =
-    let b = c .before .before .before in
-    let e = via stepOf (b .scan-run .ensures) (c .before .k .given .1) in
-    rw delta-rest (sym (owes-start (deltas _) _ refl ∙ b .before .before .loop .inv .1 ∙ owes-off (deltas _) _ _ _ e))
-
-returns-2 : tie.Need-returns-2 Inv-loop μ-loop
-returns-2 c =
-    let e = delta-end _ _ _ _ (c .loop-test .left) in
-    rw delta-rest (sym (owes-start (deltas _) _ refl ∙ c .before .loop .inv .1 ∙ owes-over (deltas _) _ (next-eq e) (readings-eq e)))
+returns-2 : tie.Need-returns-2
+returns-2 c = survey-fault _ _ (c .before .before .survey .ensures) (c .if1 .left)
 
 pub count-spec : {M : Type 1} → statement M
-count-spec =
-    tie.close
-    (tie.spec
-    Inv-loop
-    μ-loop
-    loop-holds
-    scan-run-requires
-    enum-known-next
-    loop-less
-    loop-again
-    enum-known-k
-    returns
-    returns-2)
+count-spec = tie.close (tie.spec survey-requires returns returns-2)

@@ -1,72 +1,20 @@
--- `rle_decoder::count` meets its contract: the answer owed at each run's start is the one owed at the column's. Assumes nothing.
-use Prim.Native.Nat.{_-_, _≤_}
-use mathlib.Core.Path.{_≡_, refl, sym, _∙_}
-use native.Mathlib.Omega.{arith}
-use lib.ListN.{length}
+-- `rle_decoder::count` meets its contract: no fault has the number 0, so the survey says how the column ends. Assumes nothing.
 use borrow.Author.Needs.{needs}
-use Rattle.encoding.specs.Column.{spot}
-use Rattle.encoding.specs.Limit.{limit}
-use Rattle.encoding.proofs.Via.{via}
-use Rattle.encoding.proofs.Walking.{next-eq, readings-eq, owes, owes-start, owes-on, owes-off, owes-over}
-use Rattle.encoding.proofs.Columns.{run-end, trace-rest}
-use Rattle.rle_decoder.specs.Cases.{stepOf}
+use Rattle.leb128.proofs.Refusals.{u64-fault}
+use Rattle.encoding.proofs.Faults.{trace-numbered}
+use Rattle.encoding.proofs.Surveying.{survey-sound, survey-fault}
 use Rattle.rle_decoder.specs.Word.{u64E}
-use Rattle.rle_decoder.proofs.WordLaws.{u64-laws}
-use Rattle.rle_decoder.proofs.Words.{words}
 use Rattle.rle_decoder.proofs.count.Statement.{statement}
 use Rattle.rle_decoder.proofs.count.Tie as tie
 
-abbrev Inv-loop : tie.InvT-loop
-Inv-loop s at₀ had₀ at had = (had ≤ limit) × (owes (words s) (spot 0 0) ≡ owes (words s) (spot at had))
+survey-requires : tie.Need-survey-requires
+survey-requires c κs = search needs
 
-abbrev μ-loop : tie.MeasureT-loop
-μ-loop s at₀ had₀ at had = length s - at
+returns : tie.Need-returns
+returns c = survey-sound _ _ (c .before .before .survey .ensures) (trace-numbered u64E _ (u64-fault _)) (c .if1 .taken)
 
-loop-holds : tie.Need-loop-holds Inv-loop μ-loop
-loop-holds c = (omega arith, refl)
-
-scan-run-requires : tie.Need-scan-run-requires Inv-loop μ-loop
-scan-run-requires c κs = search needs
-
-enum-known-next : tie.Need-enum-known-next Inv-loop μ-loop
-enum-known-next c = search needs
-
-loop-less : tie.Need-loop-less Inv-loop μ-loop
-loop-less c = words _ .falls _ _ (via stepOf (c .before .before .before .scan-run .ensures) (c .before .next .given .1))
-
-loop-again : tie.Need-loop-again Inv-loop μ-loop
-loop-again c =
-    let b = c .before .before .before in
-    let e = via stepOf (b .scan-run .ensures) (c .before .next .given .1) in
-    (words _ .capped _ _ e, b .before .before .loop .inv .1 ∙ owes-on (words _) _ _ e)
-
-enum-known-n : tie.Need-enum-known-n Inv-loop μ-loop
-enum-known-n c = search needs
-
-returns : tie.Need-returns Inv-loop μ-loop
-returns c =
-    let b = c .before .before .before in
-    let e = via stepOf (b .scan-run .ensures) (c .before .n .given .1) in
-    rw (trace-rest u64E u64-laws)
-    (sym (owes-start (words _) _ refl ∙ b .before .before .loop .inv .1 ∙ owes-off (words _) _ _ _ e))
-
-returns-2 : tie.Need-returns-2 Inv-loop μ-loop
-returns-2 c =
-    let e = run-end u64E _ _ _ (c .loop-test .left) in
-    rw (trace-rest u64E u64-laws)
-    (sym (owes-start (words _) _ refl ∙ c .before .loop .inv .1 ∙ owes-over (words _) _ (next-eq e) (readings-eq e)))
+returns-2 : tie.Need-returns-2
+returns-2 c = survey-fault _ _ (c .before .before .survey .ensures) (c .if1 .left)
 
 pub count-spec : {M : Type 1} → statement M
-count-spec =
-    tie.close
-    (tie.spec
-    Inv-loop
-    μ-loop
-    loop-holds
-    scan-run-requires
-    enum-known-next
-    loop-less
-    loop-again
-    enum-known-n
-    returns
-    returns-2)
+count-spec = tie.close (tie.spec survey-requires returns returns-2)

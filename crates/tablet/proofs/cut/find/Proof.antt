@@ -1,29 +1,26 @@
--- `tablet::cut::find` is safe and ends. The measure is how many rows are left. Assumes nothing.
+-- `tablet::cut::find` is safe and ends. The measure is how many columns are left. Assumes nothing.
 use Prim.Native.Nat.{_-_}
 use borrow.Author.Needs.{needs}
 use Rattle.tablet.proofs.cut.find.Statement.{statement}
 use Rattle.tablet.proofs.cut.find.Tie as tie
 
 abbrev Inv-loop : tie.InvT-loop
-Inv-loop block rows «data» at₀ start₀ i₀ at start i = Unit {0}
+Inv-loop block n i₀ i = Unit {0}
 
 abbrev μ-loop : tie.MeasureT-loop
-μ-loop block rows «data» at₀ start₀ i₀ at start i = (rows .count) - i
+μ-loop block n i₀ i = n - i
 
 loop-holds : tie.Need-loop-holds Inv-loop μ-loop
 loop-holds c = search needs
 
-row-at-requires : tie.Need-row-at-requires Inv-loop μ-loop
-row-at-requires c κs = search needs
+piece-at-requires : tie.Need-piece-at-requires Inv-loop μ-loop
+piece-at-requires c κs = search needs
 
-is-short-requires : tie.Need-is-short-requires Inv-loop μ-loop
-is-short-requires c κs = search needs
+is-whole-requires : tie.Need-is-whole-requires Inv-loop μ-loop
+is-whole-requires c κs = search needs
 
 returns : tie.Need-returns Inv-loop μ-loop
 returns c = search needs
-
-behind-requires : tie.Need-behind-requires Inv-loop μ-loop
-behind-requires c κs = search needs
 
 add-i : tie.Need-add-i Inv-loop μ-loop
 add-i c = search needs
@@ -44,10 +41,9 @@ find-spec =
     Inv-loop
     μ-loop
     loop-holds
-    row-at-requires
-    is-short-requires
+    piece-at-requires
+    is-whole-requires
     returns
-    behind-requires
     add-i
     loop-less
     loop-again

@@ -5,10 +5,10 @@ use Rattle.tablet.proofs.terminal.row.Statement.{statement}
 use Rattle.tablet.proofs.terminal.row.Tie as tie
 
 abbrev Inv-loop : tie.InvT-loop
-Inv-loop kind c row stretches n q₀ x₀ t11 q x = Unit {0}
+Inv-loop kind c row stretches n q₀ x₀ q x = Unit {0}
 
 abbrev μ-loop : tie.MeasureT-loop
-μ-loop kind c row stretches n q₀ x₀ t11 q x = (c .places) - x
+μ-loop kind c row stretches n q₀ x₀ q x = (c .places) - x
 
 cell-requires : tie.Need-cell-requires Inv-loop μ-loop
 cell-requires c κs = search needs
@@ -37,12 +37,6 @@ loop-less c = search needs
 loop-again : tie.Need-loop-again Inv-loop μ-loop
 loop-again c = search needs
 
-slice-aggregate-text : tie.Need-slice-aggregate-text Inv-loop μ-loop
-slice-aggregate-text c = search needs
-
-text-requires : tie.Need-text-requires Inv-loop μ-loop
-text-requires c κs = search needs
-
 returns : tie.Need-returns Inv-loop μ-loop
 returns c = search needs
 
@@ -61,6 +55,4 @@ row-spec =
     add-x
     loop-less
     loop-again
-    slice-aggregate-text
-    text-requires
     returns)

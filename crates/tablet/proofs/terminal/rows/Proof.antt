@@ -5,10 +5,10 @@ use Rattle.tablet.proofs.terminal.rows.Statement.{statement}
 use Rattle.tablet.proofs.terminal.rows.Tie as tie
 
 abbrev Inv-loop : tie.InvT-loop
-Inv-loop kind c width stretches q₀ r₀ q r = Unit {0}
+Inv-loop broken kind c width stretches q₀ r₀ q r = Unit {0}
 
 abbrev μ-loop : tie.MeasureT-loop
-μ-loop kind c width stretches q₀ r₀ q r = (c .rows) - r
+μ-loop broken kind c width stretches q₀ r₀ q r = (c .rows) - r
 
 loop-holds : tie.Need-loop-holds Inv-loop μ-loop
 loop-holds c = search needs
@@ -18,6 +18,9 @@ label-requires c κs = search needs
 
 row-requires : tie.Need-row-requires Inv-loop μ-loop
 row-requires c κs = search needs
+
+end-row-requires : tie.Need-end-row-requires Inv-loop μ-loop
+end-row-requires c κs = search needs
 
 add-r : tie.Need-add-r Inv-loop μ-loop
 add-r c = search needs
@@ -40,6 +43,7 @@ rows-spec =
     loop-holds
     label-requires
     row-requires
+    end-row-requires
     add-r
     loop-less
     loop-again

@@ -5,10 +5,10 @@ use Rattle.tablet.proofs.terminal.ruler.Statement.{statement}
 use Rattle.tablet.proofs.terminal.ruler.Tie as tie
 
 abbrev Inv-loop : tie.InvT-loop
-Inv-loop c stretches n q₀ x₀ t10 q x = Unit {0}
+Inv-loop c stretches n q₀ x₀ q x = Unit {0}
 
 abbrev μ-loop : tie.MeasureT-loop
-μ-loop c stretches n q₀ x₀ t10 q x = (c .places) - x
+μ-loop c stretches n q₀ x₀ q x = (c .places) - x
 
 cell-requires : tie.Need-cell-requires Inv-loop μ-loop
 cell-requires c κs = search needs
@@ -40,12 +40,6 @@ loop-less c = search needs
 loop-again : tie.Need-loop-again Inv-loop μ-loop
 loop-again c = search needs
 
-slice-aggregate-text-2 : tie.Need-slice-aggregate-text-2 Inv-loop μ-loop
-slice-aggregate-text-2 c = search needs
-
-text-requires-2 : tie.Need-text-requires-2 Inv-loop μ-loop
-text-requires-2 c κs = search needs
-
 returns : tie.Need-returns Inv-loop μ-loop
 returns c = search needs
 
@@ -65,6 +59,4 @@ ruler-spec =
     add-x
     loop-less
     loop-again
-    slice-aggregate-text-2
-    text-requires-2
     returns)

@@ -1,8 +1,8 @@
--- `tablet::cut::data_at` is safe and ends. The measure is how many rows are left. Assumes nothing.
+-- `tablet::rows::data_at` is safe and ends. The measure is how many rows are left. Assumes nothing.
 use Prim.Native.Nat.{_-_}
 use borrow.Author.Needs.{needs}
-use Rattle.tablet.proofs.cut.data_at.Statement.{statement}
-use Rattle.tablet.proofs.cut.data_at.Tie as tie
+use Rattle.tablet.proofs.rows.data_at.Statement.{statement}
+use Rattle.tablet.proofs.rows.data_at.Tie as tie
 
 abbrev Inv-loop : tie.InvT-loop
 Inv-loop block rows at₀ i₀ at i = Unit {0}

@@ -1,0 +1,9 @@
+pub mod Closing
+pub mod Comparing
+pub mod Costs
+pub mod Counting
+pub mod Cutting
+pub mod Owing
+pub mod Plain
+pub mod Room
+pub mod TurnSteps

@@ -1,0 +1,5 @@
+pub mod Cutter
+pub mod Rewritten
+pub mod Turned
+pub mod Turning
+pub mod Values

@@ -1,0 +1,20 @@
+-- 02, [7]: what was kept "as a fresh column". What is true of that column, over any kind, which reads bytes as a trace and writes lists.
+use Prim.Native.Nat.{ℕ}
+use mathlib.Core.Logic.{_⊎_}
+use mathlib.Core.Path.{_≡_}
+use mathlib.Core.List.{List, [], map}
+use mathlib.Core.Option.{Option}
+use Rattle.encoding.specs.Column.{Reading, value}
+use Rattle.encoding.specs.Walk.{Trace}
+use Rattle.encoding.specs.Walk as walk
+
+-- the readings of a trace without their places
+abbrev pub values : {A : Type 0} → Trace (Reading A) → Trace (Option A)
+values t = record { readings = map value (t .readings); ending = t .ending }
+
+-- it is sound; it reads back as what was kept, or else no kept reading is present, nothing is written, and that reads as the empty list; and salvaged
+-- again it gives the same bytes
+pub record Fresh {A : Type 0} (read : List ℕ → Trace A) (write : List A → List ℕ) (s : List ℕ) : Type 0 where
+  pub sound : read (write (read s .readings)) .ending ≡ walk.sound
+  pub back : (read (write (read s .readings)) .readings ≡ read s .readings) ⊎ ((write (read s .readings) ≡ []) × (read [] .readings ≡ []))
+  pub again : write (read (write (read s .readings)) .readings) ≡ write (read s .readings)
