@@ -1,0 +1,5 @@
+pub mod Differing
+pub mod Following
+pub mod Own
+pub mod Standing
+pub mod Written

@@ -1,0 +1,1 @@
+// Whether a column is in the form that our writer gives: its definitions and laws.
