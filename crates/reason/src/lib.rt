@@ -1,0 +1,1 @@
+// Why a column was refused: its definitions and laws.
