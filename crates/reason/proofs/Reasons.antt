@@ -41,8 +41,10 @@ use Rattle.reason.specs.Runs.{Walked, runs, flat}
 use Rattle.reason.proofs.Holding.{holding-fallen}
 use Rattle.reason.proofs.Runs.{flat-walk, FallsAt, falls}
 
--- a reason r of a fault: the run w of ws is at fault, behind n readings in all; `at` is where a run begins, and `count` what stands there
-pub record Tells {R S : Type 0} (ws : List (Walked R S)) (at : S → ℕ) (counted : S → Option ℤ) (refusal site n : ℕ) (r : Reason) : Type 0 where
+-- a reason r of a fault: the run w of ws is at fault, behind n readings in all; `at` is where a run begins, `counted` what stands
+-- there, and `true` the facts
+pub record Tells {R S : Type 0} (ws : List (Walked R S)) (at : S → ℕ) (counted : S → Option ℤ) (true : S → Facts) (refusal site n : ℕ) (r : Reason)
+    : Type 0 where
   pub number : r .number ≡ refusal
   pub place : r .place ≡ site
   pub index : r .index ≡ n
@@ -50,6 +52,7 @@ pub record Tells {R S : Type 0} (ws : List (Walked R S)) (at : S → ℕ) (count
   pub falls : FallsAt ws (r .run) refusal site run
   pub begins : r .begins ≡ at (run .state)
   pub count : r .count ≡ counted (run .state)
+  pub facts : r .facts ≡ true (run .state)
 
 module _ {R S : Type 0} (M : Machine R S) (f : ℕ) (st : S) (none-had : M .had st ≡ 0) (at : S → ℕ) (count : S → Option ℤ) (facts : ℕ → ℕ → S → Facts) where
   abbrev reasonFor : Trace R → Option Reason
@@ -57,7 +60,7 @@ module _ {R S : Type 0} (M : Machine R S) (f : ℕ) (st : S) (none-had : M .had 
 
   -- where the runs put together are the trace
   tells : (t : Trace R) → flat (runs (M .run) f st) ≡ t → (number place : ℕ) → t .ending ≡ fault number place
-      → (r : Reason) × (reasonFor t ≡ some r) × Tells (runs (M .run) f st) at count number place (length (t .readings)) r
+      → (r : Reason) × (reasonFor t ≡ some r) × Tells (runs (M .run) f st) at count (facts number place) number place (length (t .readings)) r
   tells t g number place e =
       let ws = runs (M .run) f st in
       let o : flat ws .ending ≡ fault number place = ap (λ (t : Trace R). t .ending) g ∙ e in
@@ -80,7 +83,7 @@ module _ {R S : Type 0} (M : Machine R S) (f : ℕ) (st : S) (none-had : M .had 
         index = length (t .readings);
         facts = facts number place (q .1 .state);
       } in
-      (r, z, record { number = refl; place = refl; index = refl; run = q .1; falls = q .3; begins = refl; count = refl })
+      (r, z, record { number = refl; place = refl; index = refl; run = q .1; falls = q .3; begins = refl; count = refl; facts = refl })
 
 -- ---- the kinds
 
@@ -91,7 +94,7 @@ module _ (s : List ℕ) where
 
   pub integer-tells : (number place : ℕ) → trace u64E s .ending ≡ fault number place
       → (r : Reason) × (integerReason s ≡ some r)
-      × Tells (spotsOf u64E s) (λ st. st .at) (λ st. signedCount (i64At s (st .at))) number place (length (trace u64E s .readings)) r
+      × Tells (spotsOf u64E s) (λ st. st .at) (λ st. signedCount (i64At s (st .at))) (plainFacts s number place) number place (length (trace u64E s .readings)) r
   unfolding integerReason
   integer-tells number place e =
       tells (columns u64E u64-laws s) (length s) (spot 0 0) refl (λ st. st .at) (λ st. signedCount (i64At s (st .at))) (plainFacts s)
@@ -99,7 +102,7 @@ module _ (s : List ℕ) where
 
   pub name-tells : (number place : ℕ) → trace textE s .ending ≡ fault number place
       → (r : Reason) × (textReason s ≡ some r)
-      × Tells (spotsOf textE s) (λ st. st .at) (λ st. signedCount (i64At s (st .at))) number place (length (trace textE s .readings)) r
+      × Tells (spotsOf textE s) (λ st. st .at) (λ st. signedCount (i64At s (st .at))) (nameFacts s number place) number place (length (trace textE s .readings)) r
   unfolding textReason
   name-tells number place e =
       tells (columns textE text-laws s) (length s) (spot 0 0) refl (λ st. st .at) (λ st. signedCount (i64At s (st .at))) (nameFacts s)
@@ -111,7 +114,7 @@ module _ (s : List ℕ) where
 
   pub boolean-tells : (number place : ℕ) → boolTrace s .ending ≡ fault number place
       → (r : Reason) × (booleanReason s ≡ some r)
-      × Tells (runs (turnAt s) (length s) (turn 0 0 0)) (λ st. st .at) (λ st. unsignedCount (u64At s (st .at))) number place (length (boolTrace s .readings)) r
+      × Tells (runs (turnAt s) (length s) (turn 0 0 0)) (λ st. st .at) (λ st. unsignedCount (u64At s (st .at))) (turnFacts s number place) number place (length (boolTrace s .readings)) r
   unfolding booleanReason
   boolean-tells number place e =
       tells (turns s) (length s) (turn 0 0 0) refl (λ st. st .at) (λ st. unsignedCount (u64At s (st .at))) (turnFacts s) (boolTrace s) bool-flat number place e

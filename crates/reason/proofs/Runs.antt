@@ -142,3 +142,32 @@ module _ {R S : Type 0} (M : Machine R S) where
           let c = M .counts st z h in
           let a : M .run st .readings ≡ b .run .readings = ap (λ (v : Walked R S). v .run .readings) first in
           omega (arith, r z j, c, ap length a, length-append (b .run .readings) (readingsOf bs))
+
+-- ---- what was walked is the run at its state
+
+module _ {R S : Type 0} (run : S → Run R S) where
+  own : (st : S) (w : Walked R S) → walked st (run st) ≡ w → w .run ≡ run (w .state)
+  own st w k = ap (λ (v : Walked R S). v .run) (sym k) ∙ ap (λ (v : Walked R S). run (v .state)) k
+
+  pub run-there : (f : ℕ) (st : S) (bs : List (Walked R S)) (w : Walked R S) (behind : List (Walked R S)) → runs run f st ≡ bs ++ (w ∷ behind)
+      → w .run ≡ run (w .state)
+  unfolding runs
+  run-there zero st [] w behind e = own st w cc
+  run-there zero st (b ∷ bs) w behind e =
+      let k : [] ≡ bs ++ (w ∷ behind) = cc in
+      let l = ap length k in
+      absurd (omega (arith, l, length-append bs (w ∷ behind)))
+  run-there (suc f) st [] w behind e = own st w cc
+  run-there (suc f) st (b ∷ bs) w behind e = go (run st .next) k (λ z. run-there f z bs w behind)
+    where
+      k : later (run st .next) (λ z. runs run f z) ≡ bs ++ (w ∷ behind)
+      k = cc
+
+      none-left : [] ≡ bs ++ (w ∷ behind) → ⊥
+      none-left k = let l = ap length k in omega (arith, l, length-append bs (w ∷ behind))
+
+      go : (x : Next S) → later x (λ z. runs run f z) ≡ bs ++ (w ∷ behind) → ((z : S) → runs run f z ≡ bs ++ (w ∷ behind) → w .run ≡ run (w .state))
+          → w .run ≡ run (w .state)
+      go over j r = absurd (none-left j)
+      go (off number place) j r = absurd (none-left j)
+      go (on z) j r = r z j
