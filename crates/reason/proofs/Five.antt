@@ -1,11 +1,10 @@
 -- THE FACTS OF 5 ARE TRUE: where a run is refused with 5, the readings before it and those that its count asks for pass the limit together, and the readings before it alone do not.
 -- Over any element whose own refusals are not 5, and of boolean counts. Assumes nothing.
-use Prim.Native.Nat.{ℕ, zero, suc, _+_, _-_, _<_}
+use Prim.Native.Nat.{ℕ, suc, _+_, _-_, _<_}
 use mathlib.Core.Path.{_≡_, refl, sym, _∙_, subst}
 use mathlib.Core.List.{List}
 use mathlib.Core.Option.{some}
 use mathlib.Core.Bool.{Bool, true, false, cond}
-use native.Mathlib.Decide.{decLt}
 use native.Mathlib.Omega.{arith}
 use lib.Dec.{ltb, leb, eqb}
 use lib.IntN.{ℤ, pos, negsuc}
@@ -13,8 +12,7 @@ use lib.ListN.{length, replicate}
 use borrow.Author.Tests.{leb-false}
 use Rattle.leb128.specs.Got.{Got, got, bad}
 use Rattle.leb128.specs.Read.{u64At, i64At}
-use Rattle.leb128.proofs.Refusals.{Begun, u64-begun, u64-none, i64-begun, i64-none}
-use Rattle.encoding.specs.Column.{Spot, spot, repeated, literals, literalNext, runOf, runAt, trace}
+use Rattle.encoding.specs.Column.{Spot, spot, runOf, runAt, trace}
 use Rattle.encoding.specs.Element.{Element}
 use Rattle.encoding.specs.Head.{Head, amiss, judged, absentHead, begun, headAt}
 use Rattle.encoding.specs.Limit.{limit}
@@ -25,43 +23,16 @@ use Rattle.boolean_decoder.specs.Turns.{Turn, turn, counted, turnAt, boolTrace}
 use Rattle.utf8.specs.Utf8.{isUtf8}
 use Rattle.text.specs.Text.{bytesAt, valued, textAt, textE}
 use Rattle.reason.specs.Reason.{Facts, bytes, name, passes, sum, Reason, second, asked, integerReason, textReason, booleanReason}
+use Rattle.reason.proofs.Never.{Foreign, u64-not, i64-not, repeat-not, literals-not}
 use Rattle.reason.proofs.Reasons.{integer-tells, name-tells, boolean-tells}
 use Rattle.reason.proofs.Runs.{run-there}
 
--- no number is refused with 5
-module _ (s : List ℕ) (p number place : ℕ) where
-  pub u64-not-five : u64At s p ≡ bad number place → number ≡ 5 → ⊥
-  u64-not-five e f = elim (decLt p (length s)) [
-    | yes h ↦ let b = subst Begun e (u64-begun s p h) in omega (arith, b .1)
-    | no h ↦ let z : _≡_ {A = Got ℕ} (bad 21 (length s)) (bad number place) = sym (u64-none s p (omega arith)) ∙ e in let q : 21 ≡ number = cc in omega arith
-  ]
-
-  pub i64-not-five : i64At s p ≡ bad number place → number ≡ 5 → ⊥
-  i64-not-five e f = elim (decLt p (length s)) [
-    | yes h ↦ let b = subst Begun e (i64-begun s p h) in omega (arith, b .1)
-    | no h ↦ let z : _≡_ {A = Got ℤ} (bad 21 (length s)) (bad number place) = sym (i64-none s p (omega arith)) ∙ e in let q : 21 ≡ number = cc in omega arith
-  ]
+foreign : Foreign 5
+foreign = (omega arith, λ e. omega arith)
 
 -- ---- a run-length column
 
 module _ {A : Type 0} (E : Element A) (s : List ℕ) (never : (p place : ℕ) → E .read s p ≡ bad 5 place → ⊥) where
-  repeat-not : (had c q place : ℕ) (g : Got A) → E .read s q ≡ g → repeated had c q g .next ≡ off 5 place → ⊥
-  unfolding repeated
-  repeat-not had c q place (got a z) e h = let y : _≡_ {A = ℕ} 0 1 = cc in omega arith
-  repeat-not had c q place (bad number p) e h =
-      let m : number ≡ 5 = cc in
-      never q p (e ∙ rw m refl)
-
-  literals-not : (total c q place : ℕ) → literals E s total c q .next ≡ off 5 place → ⊥
-  unfolding literals literalNext
-  literals-not total zero q place h = let y : _≡_ {A = ℕ} 0 1 = cc in omega arith
-  literals-not total (suc c) q place h = go (E .read s q) refl (λ z. literals-not total c z place) h
-    where
-      go : (g : Got A) → E .read s q ≡ g → ((z : ℕ) → literals E s total c z .next ≡ off 5 place → ⊥)
-          → literalNext q g (λ z. literals E s total c z) .next ≡ off 5 place → ⊥
-      go (got a z) e k h = k z h
-      go (bad number p) e k h = let m : number ≡ 5 = cc in never q p (e ∙ rw m refl)
-
   -- a count that is judged
   passed : (had c p place : ℕ) (h : Head) → (runOf E s had h .next ≡ off 5 place → ⊥) → (t : Bool) → leb (had + c) limit ≡ t
       → runOf E s had (cond t h (amiss 5 p)) .next ≡ off 5 place → limit < had + c
@@ -71,18 +42,18 @@ module _ {A : Type 0} (E : Element A) (s : List ℕ) (never : (p place : ℕ) �
   head-five : (at had place : ℕ) (g : Got ℤ) → i64At s at ≡ g → runOf E s had (begun s at had g) .next ≡ off 5 place → limit < had + asked s g
   unfolding begun runOf absentHead
   head-five at had place (got (negsuc c) q) e h =
-      passed had (suc c) at place (Head.literal (suc c) q) (literals-not (had + suc c) (suc c) q place) (leb (had + suc c) limit) refl h
-  head-five at had place (bad number p) e h = let m : number ≡ 5 = cc in absurd (i64-not-five s at number p e m)
+      passed had (suc c) at place (Head.literal (suc c) q) (literals-not E s 5 never (had + suc c) (suc c) q place) (leb (had + suc c) limit) refl h
+  head-five at had place (bad number p) e h = let m : number ≡ 5 = cc in absurd (i64-not s at number p 5 foreign e m)
   head-five at had place (got (pos c) q) e h = go (eqb c 0) refl h
     where
       second-five : (g : Got ℕ) → u64At s q ≡ g → runOf E s had (absentHead had q g) .next ≡ off 5 place → limit < had + second g
       second-five (got n z) f k = passed had n q place (Head.absent n z) (λ j. let y : _≡_ {A = ℕ} 0 1 = cc in omega arith) (leb (had + n) limit) refl k
-      second-five (bad number p) f k = let m : number ≡ 5 = cc in absurd (u64-not-five s q number p f m)
+      second-five (bad number p) f k = let m : number ≡ 5 = cc in absurd (u64-not s q number p 5 foreign f m)
 
       go : (t : Bool) → eqb c 0 ≡ t → runOf E s had (cond t (absentHead had q (u64At s q)) (judged had c at (Head.repeat c q))) .next ≡ off 5 place
           → limit < had + cond t (second (u64At s q)) c
       go true f k = second-five (u64At s q) refl k
-      go false f k = passed had c at place (Head.repeat c q) (repeat-not had c q place (E .read s q) refl) (leb (had + c) limit) refl k
+      go false f k = passed had c at place (Head.repeat c q) (repeat-not E s 5 never had c q place (E .read s q) refl) (leb (had + c) limit) refl k
 
   pub five-true : (st : Spot) (place : ℕ) → runAt E s st .next ≡ off 5 place → limit < st .had + asked s (i64At s (st .at))
   unfolding runAt headAt
@@ -104,7 +75,7 @@ module _ (s : List ℕ) (st : Turn) (place : ℕ) where
           → cond t (whole (replicate c (st .flag)) (turn z (st .had + c) (1 - st .flag))) (cut 5 (st .at)) .next ≡ off 5 place → limit < st .had + c
       judge true f k = let y : _≡_ {A = ℕ} 0 1 = cc in absurd (omega arith)
       judge false f k = leb-false (st .had + c) limit f
-  count-five (bad number p) e h = let m : number ≡ 5 = cc in absurd (u64-not-five s (st .at) number p e m)
+  count-five (bad number p) e h = let m : number ≡ 5 = cc in absurd (u64-not s (st .at) number p 5 foreign e m)
 
   pub turn-five : turnAt s st .next ≡ off 5 place → limit < st .had + second (u64At s (st .at))
   unfolding turnAt
@@ -124,7 +95,7 @@ PassesLimit (passes had c) = limit < had + c
 PassesLimit (sum z d) = ⊥
 
 u64-never : (s : List ℕ) (p place : ℕ) → u64E .read s p ≡ bad 5 place → ⊥
-u64-never s p place e = u64-not-five s p 5 place e refl
+u64-never s p place e = u64-not s p 5 place 5 foreign e refl
 
 text-never : (s : List ℕ) (p place : ℕ) → textE .read s p ≡ bad 5 place → ⊥
 unfolding textAt
@@ -137,7 +108,7 @@ text-never s p place = go (u64At s p) refl
 
     go : (g : Got ℕ) → u64At s p ≡ g → valued s p g ≡ bad 5 place → ⊥
     go (got n q) h e = one n q (leb (q + n) (length s)) (isUtf8 (bytesAt s q n)) e
-    go (bad m k) h e = let z : m ≡ 5 = cc in u64-not-five s p m k h z
+    go (bad m k) h e = let z : m ≡ 5 = cc in u64-not s p m k 5 foreign h z
 
 pub integer-five : (s : List ℕ) (place : ℕ) → trace u64E s .ending ≡ fault 5 place → (r : Reason) × (integerReason s ≡ some r) × PassesLimit (r .facts)
 integer-five s place e =

@@ -88,7 +88,7 @@ module _ {R S : Type 0} (M : Machine R S) (f : ℕ) (st : S) (none-had : M .had 
 -- ---- the kinds
 
 module _ (s : List ℕ) where
-  column-flat : {A : Type 0} (E : Element A) → flat (spotsOf E s) ≡ trace E s
+  pub column-flat : {A : Type 0} (E : Element A) → flat (spotsOf E s) ≡ trace E s
   unfolding trace traceFrom
   column-flat E = let k : length s ≡ length s - 0 = omega arith in flat-walk (runAt E s) (length s) (spot 0 0) ∙ ap (λ (f : ℕ). walk (runAt E s) f (spot 0 0)) k
 
