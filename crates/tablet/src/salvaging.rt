@@ -60,8 +60,8 @@ fn save_columns(block: &[u8], n: usize, table: &mut [u8], data: &mut [u8], begun
     s
 }
 
-// The last words: the new file, and as a note that something is gone.
-fn say_done(path: &[u8], to: &[u8], s: Sofar, n: usize, desk: Desk) -> bool {
+// The last words: the new file, and as a note that something is gone, of a column or behind the last one.
+fn say_done(path: &[u8], to: &[u8], s: Sofar, n: usize, whole: bool, desk: Desk) -> bool {
     let size = plus(s.table, s.data) as u64;
     let p = pen::form(
         pen::text(s.pen, to),
@@ -71,7 +71,7 @@ fn say_done(path: &[u8], to: &[u8], s: Sofar, n: usize, desk: Desk) -> bool {
         0,
         0,
     );
-    if s.lost == 0 {
+    if whole && s.lost == 0 {
         return pen::finish(pen::text(p, b", all of them whole\n"), desk);
     }
     pen::finish(pen::text(p, b"\n"), desk);
@@ -87,8 +87,8 @@ fn say_done(path: &[u8], to: &[u8], s: Sofar, n: usize, desk: Desk) -> bool {
     false
 }
 
-// A block whose rows are known, saved in a new file.
-fn save_block(path: &[u8], block: &[u8], to: &[u8], over: bool, desk: Desk) -> bool {
+// A block whose rows are known, and fit the data where it is whole, saved in a new file.
+fn save_block(path: &[u8], block: &[u8], to: &[u8], over: bool, whole: bool, desk: Desk) -> bool {
     let n = rows::count(block);
     let mut table = [0u8; 1024];
     let mut data = rooms::block();
@@ -105,7 +105,7 @@ fn save_block(path: &[u8], block: &[u8], to: &[u8], over: bool, desk: Desk) -> b
     }
     let front = between(&table, 0, s.table);
     if files::save_both(to, front, between(&data, 0, s.data), over, desk) {
-        return say_done(path, to, s, n, desk);
+        return say_done(path, to, s, n, whole, desk);
     }
     false
 }
@@ -144,11 +144,11 @@ fn say_behind(p: Pen, block: &[u8]) -> Pen {
 fn salvage(path: &[u8], block: &[u8], to: &[u8], over: bool, desk: Desk) -> bool {
     let o = raw_column::read_table(block);
     if o.number == 0 {
-        return save_block(path, block, to, over, desk);
+        return save_block(path, block, to, over, true, desk);
     }
     say_table(path, block, o.number, o.place, desk);
     if o.number == 14 || o.number == 15 {
-        save_block(path, block, to, over, desk);
+        save_block(path, block, to, over, false, desk);
     }
     false
 }
