@@ -1,4 +1,5 @@
 pub mod Cases
-pub mod TypeNumber
-pub mod Specification
 pub mod Key
+pub mod Served
+pub mod Specification
+pub mod TypeNumber

@@ -31,11 +31,19 @@ use Rattle.encoding.proofs.Cut.{cut-whole, cut-longest}
 
 -- ---- the numbers of a run read back
 
-u64-stands : (s : List ℕ) (p n : ℕ) → n < 2 ^ 64 → Stands s p (u64Bytes n) → u64At s p ≡ got n (p + length (u64Bytes n))
+pub u64-stands : (s : List ℕ) (p n : ℕ) → n < 2 ^ 64 → Stands s p (u64Bytes n) → u64At s p ≡ got n (p + length (u64Bytes n))
 u64-stands s p n l h = stands-read u64At (got n) (u64Bytes n) (λ pre post. u64-back pre post n l) s p h
 
 i64-stands : (s : List ℕ) (p : ℕ) (x : ℤ) → mag x < 2 ^ 63 → Stands s p (i64Bytes x) → i64At s p ≡ got x (p + length (i64Bytes x))
 i64-stands s p x l h = stands-read i64At (got x) (i64Bytes x) (λ pre post. i64-back pre post x l) s p h
+
+-- the run that a count begins
+pub begins : {A : Type 0} (E : Element A) (s : List ℕ) (p n : ℕ) (x : ℤ) → mag x < 2 ^ 63 → Stands s p (i64Bytes x)
+    → runAt E s (spot p n) ≡ runOf E s n (begun s p n (got x (p + length (i64Bytes x))))
+unfolding headAt
+begins E s p n x f h =
+    let l : p < length s = omega (arith, stands-within s p (i64Bytes x) h, i64-short x) in
+    run-head E s p n _ l (ap (λ (g : Got ℤ). begun s p n g) (i64-stands s p x f h))
 
 -- ---- which lists the writer takes
 
@@ -109,14 +117,9 @@ module _ {A : Type 0} (E : Element A) (L : ElementLaws E) (s : List ℕ) where
         ap (λ (r : List (Option A)). some a ∷ r) (ih .2),
       )
 
-  -- the run that a count x begins, with w behind it
   head-back : (p n : ℕ) (x : ℤ) (w : List ℕ) → mag x < 2 ^ 63 → Stands s p (i64Bytes x ++ w)
       → runAt E s (spot p n) ≡ runOf E s n (begun s p n (got x (p + length (i64Bytes x))))
-  unfolding headAt
-  head-back p n x w f h =
-      let hc = stands-left s p (i64Bytes x) w h in
-      let l : p < length s = omega (arith, stands-within s p (i64Bytes x) hc, i64-short x) in
-      run-head E s p n _ l (ap (λ (g : Got ℤ). begun s p n g) (i64-stands s p x f hc))
+  head-back p n x w f h = begins E s p n x f (stands-left s p (i64Bytes x) w h)
 
   run-back : (p n : ℕ) (x : Stretch A) → Fit E x → n + length (readingsIn x) ≤ limit → Stands s p (stretchBytes E x)
       → Reads (runAt E s (spot p n)) (p + length (stretchBytes E x)) n (readingsIn x)

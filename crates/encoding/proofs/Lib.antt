@@ -4,10 +4,10 @@ pub mod Cut
 pub mod Elements
 pub mod Faults
 pub mod Filling
+pub mod Fronts
 pub mod Limits
 pub mod Lists
 pub mod Looking
-pub mod StretchParts
 pub mod Placing
 pub mod Presence
 pub mod Putting
@@ -15,6 +15,7 @@ pub mod Readable
 pub mod Reading
 pub mod Running
 pub mod Sizes
+pub mod StretchParts
 pub mod Surveying
 pub mod Via
 pub mod Walking

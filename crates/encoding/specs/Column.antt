@@ -1,6 +1,6 @@
 -- 01, "Columns": the meaning of a run-length column's bytes, over the element. "RLE is a row of runs."
 use Prim.Native.Nat.{ℕ, zero, suc, _+_, _-_}
-use mathlib.Core.List.{List, [], _∷_}
+use mathlib.Core.List.{List, [], _∷_, map}
 use mathlib.Core.Option.{Option, none, some}
 use mathlib.Core.Bool.{cond}
 use lib.ListN.{length, replicate}
@@ -18,6 +18,10 @@ pub data Reading (A : Type 0) : Type 0 where
 unfoldable pub value : {A : Type 0} → Reading A → Option A
 value absent = none
 value (present a place) = some a
+
+-- the readings of a trace without their places
+abbrev pub values : {A : Type 0} → Trace (Reading A) → Trace (Option A)
+values t = record { readings = map value (t .readings); ending = t .ending }
 
 -- the state between runs: the position of the next run, and how many readings came before it
 pub record Spot : Type 0 where

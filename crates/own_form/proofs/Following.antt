@@ -1,9 +1,9 @@
 -- HEADS DECIDE: where the count of the writer's next stretch stands in a sound column at a run's beginning, the run is that stretch, byte for byte, and behind it
 -- the column reads as what the writer has still to write. So two forms of one list differ first within a count. Over any element; assumes nothing.
-use Prim.Native.Nat.{ℕ, zero, suc, _+_, _^_, _≤_, _<_}
+use Prim.Native.Nat.{ℕ, zero, suc, _+_, _≤_, _<_}
 use mathlib.Core.Logic.{_⊎_, inl, inr}
 use mathlib.Core.Path.{_≡_, refl, sym, _∙_, ap, subst}
-use mathlib.Core.List.{List, [], _∷_, _++_, map, append-nil}
+use mathlib.Core.List.{List, [], _∷_, _++_, map}
 use mathlib.Core.Option.{Option, none, some}
 use mathlib.Core.Bool.{Bool, cond}
 use native.Mathlib.Nat.{add-zero}
@@ -11,25 +11,24 @@ use native.Mathlib.Omega.{arith}
 use lib.IntN.{ℤ, pos, negsuc}
 use lib.ListN.{length, getD, take, drop, replicate, length-append, length-replicate, length-map, take-append-drop}
 use lib.Seq.{length-take-le}
-use lib.Signed.{mag}
 use borrow.Author.Tests.{le-leb, ne-eqb}
 use Rattle.leb128.specs.Got.{Got, got, bad}
-use Rattle.leb128.specs.Read.{u64At, i64At}
+use Rattle.leb128.specs.Read.{u64At}
 use Rattle.leb128.specs.Write.{u64Bytes, i64Bytes}
-use Rattle.leb128.proofs.Laws.{u64-back, i64-back, i64-short}
 use Rattle.encoding.specs.Column.{Reading, absent, present, value, Spot, spot, ahead, repeated, literalNext, literals, runOf, runAt, traceFrom}
 use Rattle.encoding.specs.Element.{Element}
-use Rattle.encoding.specs.Head.{Head, amiss, judged, absentHead, begun, headAt}
+use Rattle.encoding.specs.Head.{Head, amiss, judged, absentHead, begun}
 use Rattle.encoding.specs.Limit.{limit}
 use Rattle.encoding.specs.Longest.{readingsIn}
 use Rattle.encoding.specs.Stretches.{Stretch}
 use Rattle.encoding.specs.Walk.{Run, Next, off, whole, Trace, Ending, sound, fault, before, after, onward}
 use Rattle.encoding.specs.Writer.{allBytes, stretchBytes}
-use Rattle.encoding.proofs.Columns.{run-head, repeated-got, repeated-bad, trace-on}
-use Rattle.encoding.proofs.Elements.{Stands, ElementLaws, stands-left, stands-right, stands-within, stands-read}
+use Rattle.encoding.proofs.Back.{u64-stands, begins}
+use Rattle.encoding.proofs.Columns.{repeated-got, repeated-bad, trace-on}
+use Rattle.encoding.proofs.Elements.{Stands, ElementLaws, stands-left, stands-right, stands-within}
 use Rattle.encoding.proofs.Lists.{map-append, map-replicate}
 use Rattle.encoding.proofs.Walking.{next-eq}
-use Rattle.own_form.specs.Heads.{headBytes, valueBytes}
+use Rattle.own_form.specs.Heads.{headBytes}
 use Rattle.own_form.proofs.Standing.{stands-join, read-stands}
 
 -- ---- lists that begin alike
@@ -43,14 +42,6 @@ append-same (u ∷ us) (v ∷ vs) xs ys l e =
     let g : us ++ xs ≡ vs ++ ys = cc in
     let k = append-same us vs xs ys (omega arith) g in
     (ap (λ (x : _). x ∷ us) f ∙ ap (λ (l : List _). v ∷ l) (k .0), k .1)
-
--- ---- what a stretch is in bytes
-
-pub split-bytes : {A : Type 0} (E : Element A) (x : Stretch A) → stretchBytes E x ≡ headBytes x ++ valueBytes E x
-unfolding stretchBytes headBytes valueBytes
-split-bytes E (Stretch.absent n) = sym (append-nil (i64Bytes (pos 0) ++ u64Bytes n))
-split-bytes E (Stretch.repeat n a) = refl
-split-bytes E (Stretch.literal a more) = refl
 
 module _ {A : Type 0} (E : Element A) (L : ElementLaws E) (s : List ℕ) (B : (i : ℕ) → getD s i 0 < 256) where
   -- what comes behind the bytes w of a run at p: ys, soundly
@@ -72,13 +63,6 @@ module _ {A : Type 0} (E : Element A) (L : ElementLaws E) (s : List ℕ) (B : (i
       let j : sound ≡ fault number place = sym h ∙ k in
       let z : _≡_ {A = ℕ} 0 1 = cc in omega arith
 
-  -- the run that a count begins
-  begins : (p had : ℕ) (x : ℤ) → mag x < 2 ^ 63 → Stands s p (i64Bytes x) → runAt E s (spot p had) ≡ runOf E s had (begun s p had (got x (p + length (i64Bytes x))))
-  unfolding headAt
-  begins p had x f h =
-      let l : p < length s = omega (arith, stands-within s p (i64Bytes x) h, i64-short x) in
-      run-head E s p had _ l (ap (λ (g : Got ℤ). begun s p had g) (stands-read i64At (got x) (i64Bytes x) (λ pre post. i64-back pre post x f) s p h))
-
   -- ---- absent readings
 
   pub absent-follows : (p had n : ℕ) (ys : List (Option A)) → had + n ≤ limit → Stands s p (headBytes {A = A} (Stretch.absent n))
@@ -89,9 +73,9 @@ module _ {A : Type 0} (E : Element A) (L : ElementLaws E) (s : List ℕ) (B : (i
       let c : List ℕ = i64Bytes (pos 0) in
       let q : ℕ = p + length c in
       let z : ℕ = q + length (u64Bytes n) in
-      let u : u64At s q ≡ got n z = stands-read u64At (got n) (u64Bytes n) (λ pre post. u64-back pre post n (omega arith)) s q (stands-right s p c (u64Bytes n) h) in
+      let u : u64At s q ≡ got n z = u64-stands s q n (omega arith) (stands-right s p c (u64Bytes n) h) in
       let r : runAt E s (spot p had) ≡ whole (replicate n absent) (spot z (had + n)) =
-      begins p had (pos 0) (omega arith) (stands-left s p c (u64Bytes n) h)
+      begins E s p had (pos 0) (omega arith) (stands-left s p c (u64Bytes n) h)
       ∙ ap (λ (g : Got ℕ). runOf E s had (absentHead had q g)) u
       ∙ ap (λ (t : Bool). runOf E s had (cond t (Head.absent n z) (amiss 5 q))) (le-leb (had + n) limit m) in
       let t = behind-run p had (replicate n absent) (spot z (had + n)) r in
@@ -119,7 +103,7 @@ module _ {A : Type 0} (E : Element A) (L : ElementLaws E) (s : List ℕ) (B : (i
 
       run : runAt E s (spot p had) ≡ repeated had n q (E .read s q)
       run =
-          begins p had (pos n) (omega arith) h
+          begins E s p had (pos n) (omega arith) h
           ∙ ap (λ (t : Bool). runOf E s had (cond t (absentHead had q (u64At s q)) (judged had n p (Head.repeat n q)))) (ne-eqb n 0 (λ z. omega arith))
           ∙ ap (λ (t : Bool). runOf E s had (cond t (Head.repeat n q) (amiss 5 p))) (le-leb (had + n) limit m)
 
@@ -217,7 +201,7 @@ module _ {A : Type 0} (E : Element A) (L : ElementLaws E) (s : List ℕ) (B : (i
 
       run : runAt E s (spot p had) ≡ literals E s (had + n) n q
       run =
-          begins p had x (omega arith) h
+          begins E s p had x (omega arith) h
           ∙ ap (λ (t : Bool). runOf E s had (cond t (Head.literal n q) (amiss 5 p))) (le-leb (had + n) limit m)
 
       somes : (l k : List A) → map some l ≡ map some k → l ≡ k

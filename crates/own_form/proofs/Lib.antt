@@ -1,3 +1,4 @@
+pub mod Deciding
 pub mod Differing
 pub mod Following
 pub mod Own

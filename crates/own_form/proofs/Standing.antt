@@ -1,10 +1,10 @@
 -- Bytes that stand somewhere in others: two parts side by side stand there as one, and a value that is read stands there as its encoding. Assumes nothing.
 use Prim.Native.Nat.{ℕ, _+_, _-_, _≤_, _<_}
-use mathlib.Core.Path.{_≡_, refl, sym, _∙_, ap}
+use mathlib.Core.Path.{_≡_, sym, _∙_, ap}
 use mathlib.Core.List.{List, _++_, append-assoc}
 use native.Mathlib.Omega.{arith}
 use lib.ListN.{length, getD, take, drop, length-append, length-drop, take-append-drop}
-use lib.Seq.{take-at, drop-at, length-take-le}
+use lib.Seq.{drop-at, length-take-le}
 use Rattle.leb128.specs.Got.{got}
 use Rattle.encoding.specs.Element.{Element}
 use Rattle.encoding.proofs.Elements.{Stands, ElementLaws}
@@ -19,21 +19,20 @@ stands-there s p w e l =
       place = length-take-le p s l;
     }
 
-pub there-stands : (s : List ℕ) (p : ℕ) (w : List ℕ) → Stands s p w → take (length w) (drop p s) ≡ w
-there-stands s p w h =
-    ap (λ (r : List ℕ). take (length w) (drop p r)) (h .split)
-    ∙ ap (take (length w)) (drop-at (h .pre) (w ++ h .post) p (h .place)) ∙ take-at w (h .post) (length w) refl
-
 -- behind it stands the rest
-behind : (s : List ℕ) (p : ℕ) (w : List ℕ) (h : Stands s p w) → drop (p + length w) s ≡ h .post
-behind s p w h =
+post-is : (s : List ℕ) (p : ℕ) (w : List ℕ) (h : Stands s p w) → drop (p + length w) s ≡ h .post
+post-is s p w h =
     ap (drop (p + length w)) (h .split ∙ sym (append-assoc (h .pre) w (h .post)))
     ∙ drop-at (h .pre ++ w) (h .post) (p + length w) (length-append (h .pre) w ∙ ap (λ (k : ℕ). k + length w) (h .place))
+
+pub behind : (s : List ℕ) (p : ℕ) (w : List ℕ) → Stands s p w → drop p s ≡ w ++ drop (p + length w) s
+behind s p w h =
+    ap (drop p) (h .split) ∙ drop-at (h .pre) (w ++ h .post) p (h .place) ∙ ap (λ (r : List ℕ). w ++ r) (sym (post-is s p w h))
 
 pub stands-join : (s : List ℕ) (p : ℕ) (v w : List ℕ) → Stands s p v → Stands s (p + length v) w → Stands s p (v ++ w)
 stands-join s p v w h k =
     let e : h .post ≡ w ++ k .post =
-    sym (behind s p v h)
+    sym (post-is s p v h)
     ∙ ap (drop (p + length v)) (k .split) ∙ drop-at (k .pre) (w ++ k .post) (p + length v) (k .place) in
     record {
       pre = h .pre;

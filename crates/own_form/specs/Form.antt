@@ -3,8 +3,8 @@
 use Prim.Native.Nat.{ℕ}
 use mathlib.Core.List.{List, map}
 use mathlib.Core.Option.{Option, none, some}
-use mathlib.Core.Bool.{cond, _||_}
-use lib.Dec.{eqb}
+use mathlib.Core.Bool.{cond}
+use Rattle.column_specification.specs.Served.{integerType, deltaType, booleanType, textType}
 use Rattle.encoding.specs.Column.{value, trace}
 use Rattle.encoding.specs.Walk.{Ending, sound, fault, Trace}
 use Rattle.encoding.specs.Writer.{columnBytes}
@@ -35,11 +35,11 @@ formBy (fault number place) s bytes = refused number place
 unfoldable pub formIn : {R : Type 0} → (List ℕ → Trace R) → (List R → List ℕ) → List ℕ → Form
 formIn read write s = formBy (read s .ending) s (write (read s .readings))
 
--- by the type's number (01, "Specifications": 1 Actor, 2 Integer, 3 DeltaInteger, 4 Boolean, 5 String); "17, then .. the column's own fault"
+-- by the type's number: "17, then .. the column's own fault"
 unfoldable pub formOf : ℕ → List ℕ → Form
 formOf t s =
-    cond (eqb t 1 || eqb t 2) (formIn (trace u64E) (λ rs. columnBytes u64E (map value rs)) s)
-    (cond (eqb t 3) (formIn deltaTrace (λ rs. deltaBytes (map value rs)) s)
-    (cond (eqb t 4) (formIn boolTrace boolBytes s)
-    (cond (eqb t 5) (formIn (trace textE) (λ rs. columnBytes textE (map value rs)) s)
+    cond (integerType t) (formIn (trace u64E) (λ rs. columnBytes u64E (map value rs)) s)
+    (cond (deltaType t) (formIn deltaTrace (λ rs. deltaBytes (map value rs)) s)
+    (cond (booleanType t) (formIn boolTrace boolBytes s)
+    (cond (textType t) (formIn (trace textE) (λ rs. columnBytes textE (map value rs)) s)
     (refused 17 0))))

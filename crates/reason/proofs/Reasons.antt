@@ -1,7 +1,7 @@
 -- A FAULTY COLUMN HAS A REASON, with the ordinary call's number and place, and it names the run at fault: that begins at the byte named, holds the count named, has so many
 -- runs before it that all read without fault, and so many readings before the faulty one. A sound column has none. Assumes nothing.
 use Prim.Native.Nat.{ℕ, _+_, _-_}
-use mathlib.Core.Path.{_≡_, refl, _∙_, ap}
+use mathlib.Core.Path.{_≡_, refl, sym, _∙_, ap}
 use mathlib.Core.List.{List}
 use mathlib.Core.Option.{Option, none, some}
 use lib.IntN.{ℤ}
@@ -54,36 +54,35 @@ pub record Tells {R S : Type 0} (ws : List (Walked R S)) (at : S → ℕ) (count
   pub count : r .count ≡ counted (run .state)
   pub facts : r .facts ≡ true (run .state)
 
-module _ {R S : Type 0} (M : Machine R S) (f : ℕ) (st : S) (none-had : M .had st ≡ 0) (at : S → ℕ) (count : S → Option ℤ) (facts : ℕ → ℕ → S → Facts) where
-  abbrev reasonFor : Trace R → Option Reason
-  reasonFor t = reasonBy (t .ending) (λ number place. told number place (length (t .readings)) at count (facts number place) (holding (M .had) (length (t .readings)) 0 (runs (M .run) f st)))
-
-  -- where the runs put together are the trace
-  tells : (t : Trace R) → flat (runs (M .run) f st) ≡ t → (number place : ℕ) → t .ending ≡ fault number place
-      → (r : Reason) × (reasonFor t ≡ some r) × Tells (runs (M .run) f st) at count (facts number place) number place (length (t .readings)) r
-  tells t g number place e =
+module _ {R S : Type 0} (M : Machine R S) (f : ℕ) (st : S) (none-had : M .had st ≡ 0) (at : S → ℕ) (counted : S → Option ℤ) (true : S → Facts) where
+  -- behind n readings in all, which is as many as the runs have
+  pub tells : (number place n : ℕ) → flat (runs (M .run) f st) .ending ≡ fault number place → n ≡ length (flat (runs (M .run) f st) .readings)
+      → (r : Reason) × (told number place n at counted true (holding (M .had) n 0 (runs (M .run) f st)) ≡ some r)
+      × Tells (runs (M .run) f st) at counted true number place n r
+  tells number place n o m =
       let ws = runs (M .run) f st in
-      let o : flat ws .ending ≡ fault number place = ap (λ (t : Trace R). t .ending) g ∙ e in
-      let m : length (flat ws .readings) ≡ length (t .readings) = ap (λ (t : Trace R). length (t .readings)) g in
       let q = falls 0 ws number place o in
       let c : 0 + q .0 ≡ q .0 = omega arith in
       let h =
-      holding-fallen M f st (length (t .readings)) 0 number place (o, omega (arith, m, none-had)) ∙ q .2
+      holding-fallen M f st n 0 number place (o, omega (arith, m, none-had)) ∙ q .2
       ∙ ap (λ (l : ℕ). some (record { index = l; at = q .1 })) c in
-      let z : reasonFor t ≡ told number place (length (t .readings)) at count (facts number place) (some (record { index = q .0; at = q .1 })) =
-      ap (λ (x : Ending). reasonBy x (λ number place. told number place (length (t .readings)) at count (facts number place) (holding (M .had) (length (t .readings)) 0 ws))) e
-      ∙ ap (told number place (length (t .readings)) at count (facts number place)) h in
-      let r : Reason =
-      record {
-        number = number;
-        place = place;
-        run = q .0;
-        begins = at (q .1 .state);
-        count = count (q .1 .state);
-        index = length (t .readings);
-        facts = facts number place (q .1 .state);
-      } in
-      (r, z, record { number = refl; place = refl; index = refl; run = q .1; falls = q .3; begins = refl; count = refl; facts = refl })
+      let w = q .1 .state in
+      let r : Reason = record { number = number; place = place; run = q .0; begins = at w; count = counted w; index = n; facts = true w } in (
+        r,
+        ap (told number place n at counted true) h,
+        record { number = refl; place = refl; index = refl; run = q .1; falls = q .3; begins = refl; count = refl; facts = refl },
+      )
+
+-- the reason by the ending
+pub by-fault : (x : Ending) (k : ℕ → ℕ → Option Reason) (number place : ℕ) → x ≡ fault number place → reasonBy x k ≡ k number place
+by-fault x k number place e = ap (λ (x : Ending). reasonBy x k) e
+
+-- two traces that are the same end alike, and have as many readings
+pub ending-eq : {R : Type 0} {t u : Trace R} → t ≡ u → t .ending ≡ u .ending
+ending-eq e = ap (λ t. t .ending) e
+
+pub count-eq : {R : Type 0} {t u : Trace R} → t ≡ u → length (t .readings) ≡ length (u .readings)
+count-eq e = ap (λ t. length (t .readings)) e
 
 -- ---- the kinds
 
@@ -97,16 +96,22 @@ module _ (s : List ℕ) where
       × Tells (spotsOf u64E s) (λ st. st .at) (λ st. signedCount (i64At s (st .at))) (plainFacts s number place) number place (length (trace u64E s .readings)) r
   unfolding integerReason
   integer-tells number place e =
-      tells (columns u64E u64-laws s) (length s) (spot 0 0) refl (λ st. st .at) (λ st. signedCount (i64At s (st .at))) (plainFacts s)
-      (trace u64E s) (column-flat u64E) number place e
+      let g = column-flat u64E in
+      let t =
+      tells (columns u64E u64-laws s) (length s) (spot 0 0) refl (λ st. st .at) (λ st. signedCount (i64At s (st .at))) (plainFacts s number place) number place
+      (length (trace u64E s .readings)) (ending-eq g ∙ e) (sym (count-eq g)) in
+      (t .0, by-fault (trace u64E s .ending) _ number place e ∙ t .1, t .2)
 
   pub name-tells : (number place : ℕ) → trace textE s .ending ≡ fault number place
       → (r : Reason) × (textReason s ≡ some r)
       × Tells (spotsOf textE s) (λ st. st .at) (λ st. signedCount (i64At s (st .at))) (nameFacts s number place) number place (length (trace textE s .readings)) r
   unfolding textReason
   name-tells number place e =
-      tells (columns textE text-laws s) (length s) (spot 0 0) refl (λ st. st .at) (λ st. signedCount (i64At s (st .at))) (nameFacts s)
-      (trace textE s) (column-flat textE) number place e
+      let g = column-flat textE in
+      let t =
+      tells (columns textE text-laws s) (length s) (spot 0 0) refl (λ st. st .at) (λ st. signedCount (i64At s (st .at))) (nameFacts s number place) number place
+      (length (trace textE s .readings)) (ending-eq g ∙ e) (sym (count-eq g)) in
+      (t .0, by-fault (trace textE s .ending) _ number place e ∙ t .1, t .2)
 
   bool-flat : flat (runs (turnAt s) (length s) (turn 0 0 0)) ≡ boolTrace s
   unfolding boolTrace turnsFrom
@@ -117,7 +122,11 @@ module _ (s : List ℕ) where
       × Tells (runs (turnAt s) (length s) (turn 0 0 0)) (λ st. st .at) (λ st. unsignedCount (u64At s (st .at))) (turnFacts s number place) number place (length (boolTrace s .readings)) r
   unfolding booleanReason
   boolean-tells number place e =
-      tells (turns s) (length s) (turn 0 0 0) refl (λ st. st .at) (λ st. unsignedCount (u64At s (st .at))) (turnFacts s) (boolTrace s) bool-flat number place e
+      let g = bool-flat in
+      let t =
+      tells (turns s) (length s) (turn 0 0 0) refl (λ st. st .at) (λ st. unsignedCount (u64At s (st .at))) (turnFacts s number place) number place
+      (length (boolTrace s .readings)) (ending-eq g ∙ e) (sym (count-eq g)) in
+      (t .0, by-fault (boolTrace s .ending) _ number place e ∙ t .1, t .2)
 
   -- a sound column has none
   pub integer-sound : trace u64E s .ending ≡ sound → integerReason s ≡ none

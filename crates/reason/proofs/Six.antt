@@ -12,18 +12,18 @@ use lib.ListN.{length}
 use Rattle.leb128.specs.Got.{got}
 use Rattle.leb128.specs.Read.{i64At}
 use Rattle.encoding.specs.Column.{Reading, absent, present, Spot, spot, runAt, trace}
-use Rattle.encoding.specs.Walk.{Ending, fault, off, Trace}
+use Rattle.encoding.specs.Walk.{Ending, fault, off}
 use Rattle.encoding.proofs.Columns.{columns}
 use Rattle.encoding.proofs.Walking.{next-eq}
 use Rattle.text.proofs.Placed.{Each, trace-each}
 use Rattle.delta_decoder.specs.Difference.{i64E, holds}
 use Rattle.delta_decoder.proofs.DifferenceLaws.{i64-laws}
 use Rattle.delta_decoder.specs.Sums.{heldSum, added, addUp, deltaTrace}
-use Rattle.reason.specs.Reason.{sum, Reason, signedCount, holding, told, reasonBy, lastSum, delta, spotsOf, sumFacts, deltaReason}
+use Rattle.reason.specs.Reason.{sum, Reason, signedCount, told, lastSum, delta, spotsOf, sumFacts, deltaReason}
 use Rattle.reason.specs.Runs.{Walked, flat}
-use Rattle.reason.proofs.Holding.{HoldsAt, holding-fallen, holding-index}
+use Rattle.reason.proofs.Holding.{HoldsAt, holding-index}
 use Rattle.reason.proofs.Never.{Foreign, i64-not, run-not}
-use Rattle.reason.proofs.Reasons.{Tells, column-flat}
+use Rattle.reason.proofs.Reasons.{Tells, tells, by-fault, ending-eq, count-eq, column-flat}
 use Rattle.reason.proofs.Runs.{falls, run-there}
 
 -- what is read at a place
@@ -90,7 +90,7 @@ module _ (s : List ℕ) where
   -- no difference is refused with 6 itself
   never-six : (place : ℕ) → trace i64E s .ending ≡ fault 6 place → ⊥
   never-six place e =
-      let q = falls 0 (spotsOf i64E s) 6 place (ap (λ (t : Trace (Reading ℤ)). t .ending) (column-flat s i64E) ∙ e) in
+      let q = falls 0 (spotsOf i64E s) 6 place (ending-eq (column-flat s i64E) ∙ e) in
       let y = q .3 in
       let h : runAt i64E s (q .1 .state) .next ≡ off 6 place = sym (next-eq (run-there (runAt i64E s) (length s) (spot 0 0) (y .before) (q .1) (y .behind) (y .split))) ∙ y .fault in
       run-not i64E s 6 (λ p k g. i64-not s p 6 k 6 foreign g refl) foreign (λ z. omega arith) (q .1 .state) place h
@@ -132,7 +132,7 @@ module _ (s : List ℕ) where
           let p : x .0 ≡ place = let k : fault 6 (x .0) ≡ fault 6 place = sym (x .1) ∙ e in cc in
           let f : i64At s place ≡ got (y .d) (y .read .0) = ap (i64At s) (sym p) ∙ y .read .1 in
           let g : delta (i64At s place) ≡ y .d = ap delta f in
-          let m : length (flat (spotsOf i64E s) .readings) ≡ length differences = ap (λ (t : Trace (Reading ℤ)). length (t .readings)) (column-flat s i64E) in
+          let m : length (flat (spotsOf i64E s) .readings) ≡ length differences = count-eq (column-flat s i64E) in
           let q = holding-index (columns i64E i64-laws s) (length s) (spot 0 0) n 0 (omega arith) (omega (arith, m, y .fewer)) in
           let c : 0 + q .0 ≡ q .0 = omega arith in
           let h = q .2 ∙ ap (λ (i : ℕ). some (record { index = i; at = q .1 })) c in
@@ -147,8 +147,7 @@ module _ (s : List ℕ) where
             facts = sumFacts s 6 place (q .1 .state);
           } in (
             r,
-            ap (λ (x : Ending). reasonBy x (λ number place. told number place n (λ (st : Spot). st .at) (λ (st : Spot). signedCount (i64At s (st .at)))
-                (sumFacts s number place) (holding (λ (st : Spot). st .had) n 0 (spotsOf i64E s)))) e
+            by-fault (deltaTrace s .ending) _ 6 place e
                 ∙ ap (told 6 place n (λ (st : Spot). st .at) (λ (st : Spot). signedCount (i64At s (st .at))) (sumFacts s 6 place)) h,
             record {
               number = refl;
@@ -171,36 +170,14 @@ module _ (s : List ℕ) where
   unfolding deltaReason differences
   delta-tells number place e other = go summing
     where
-      n : ℕ
-      n = length (deltaTrace s .readings)
-
       go : ((deltaTrace s .ending ≡ trace i64E s .ending) × (length (deltaTrace s .readings) ≡ length differences))
           ⊎ ((p : ℕ) × (deltaTrace s .ending ≡ fault 6 p) × Leaves s (pos 0) differences (trace i64E s .ending) p)
           → (r : Reason) × (deltaReason s ≡ some r)
           × Tells (spotsOf i64E s) (λ st. st .at) (λ st. signedCount (i64At s (st .at))) (sumFacts s number place) number place (length (deltaTrace s .readings)) r
       go (inr x) = absurd (other (let k : fault number place ≡ fault 6 (x .0) = sym e ∙ x .1 in cc))
       go (inl x) =
-          let ws = spotsOf i64E s in
-          let o : flat ws .ending ≡ fault number place = ap (λ (t : Trace (Reading ℤ)). t .ending) (column-flat s i64E) ∙ sym (x .0) ∙ e in
-          let m : length (flat ws .readings) ≡ length differences = ap (λ (t : Trace (Reading ℤ)). length (t .readings)) (column-flat s i64E) in
-          let q = falls 0 ws number place o in
-          let c : 0 + q .0 ≡ q .0 = omega arith in
-          let h =
-          holding-fallen (columns i64E i64-laws s) (length s) (spot 0 0) n 0 number place (o, omega (arith, m, x .1)) ∙ q .2
-          ∙ ap (λ (l : ℕ). some (record { index = l; at = q .1 })) c in
-          let r : Reason =
-          record {
-            number = number;
-            place = place;
-            run = q .0;
-            begins = q .1 .state .at;
-            count = signedCount (i64At s (q .1 .state .at));
-            index = n;
-            facts = sumFacts s number place (q .1 .state);
-          } in (
-            r,
-            ap (λ (x : Ending). reasonBy x (λ number place. told number place n (λ (st : Spot). st .at) (λ (st : Spot). signedCount (i64At s (st .at)))
-                (sumFacts s number place) (holding (λ (st : Spot). st .had) n 0 ws))) e
-                ∙ ap (told number place n (λ (st : Spot). st .at) (λ (st : Spot). signedCount (i64At s (st .at))) (sumFacts s number place)) h,
-            record { number = refl; place = refl; index = refl; run = q .1; falls = q .3; begins = refl; count = refl; facts = refl },
-          )
+          let g = column-flat s i64E in
+          let t =
+          tells (columns i64E i64-laws s) (length s) (spot 0 0) refl (λ st. st .at) (λ st. signedCount (i64At s (st .at))) (sumFacts s number place) number place
+          (length (deltaTrace s .readings)) (ending-eq g ∙ sym (x .0) ∙ e) (x .1 ∙ sym (count-eq g)) in
+          (t .0, by-fault (deltaTrace s .ending) _ number place e ∙ t .1, t .2)

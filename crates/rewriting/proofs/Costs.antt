@@ -1,19 +1,20 @@
 -- What the writer's stretches cost in bytes, where the first of a list are known: absent readings, values of which each is unlike the next, and a value
 -- that stands there some times. Assumes nothing.
 use Prim.Native.Nat.{ℕ, zero, suc, _+_, _≤_}
-use mathlib.Core.Path.{_≡_, refl, _∙_, ap}
+use mathlib.Core.Path.{_≡_, _∙_, ap}
 use mathlib.Core.List.{List, [], _∷_, _++_, map}
 use mathlib.Core.Option.{Option, none, some}
-use mathlib.Core.Bool.{Bool, true, false, cond}
+use mathlib.Core.Bool.{Bool, true}
 use native.Mathlib.Omega.{arith}
 use lib.IntN.{pos, negsuc}
 use lib.ListN.{length, replicate, length-append}
 use Rattle.leb128.specs.Write.{u64Bytes, i64Bytes}
 use Rattle.encoding.specs.Element.{Element}
-use Rattle.encoding.specs.Stretches.{Stretch, literalOf, joinNone, joinSome, stretches}
+use Rattle.encoding.specs.Stretches.{Stretch, stretches}
 use Rattle.encoding.specs.Writer.{allBytes, stretchBytes, stretchesBytes}
-use Rattle.encoding.specs.Ahead.{repeats, joinAll, Off, Closed, Apart}
-use Rattle.encoding.proofs.Looking.{repeats-end, literal-end, off-none, closed-none}
+use Rattle.encoding.specs.Ahead.{joinAll, Off, Closed, Apart}
+use Rattle.encoding.proofs.Fronts.{NoAbsent, NoValue, absent-cut, repeats-cut, joined, off-ended, closed-ended, some-more}
+use Rattle.encoding.proofs.Looking.{repeats-end, literal-end}
 use Rattle.rewriting.specs.Cutter.{literalHead, absentRun}
 
 -- values l in front of stretches: each is unlike the next one, the last unlike what the stretches begin with
@@ -24,68 +25,6 @@ Pending same (b ∷ l) r = Apart same b l r
 -- ---- the stretches of a list whose first readings are known
 
 module _ {A : Type 0} (same : A → A → Bool) where
-  before-some : (a : A) (r : List (Stretch A)) → joinNone (joinSome same a r) ≡ Stretch.absent 1 ∷ joinSome same a r
-  unfolding joinNone joinSome
-  before-some a [] = refl
-  before-some a (Stretch.absent n ∷ r) = refl
-  before-some a (Stretch.repeat n b ∷ r) = go (same a b)
-    where
-      go : (t : Bool) → joinNone (cond t (Stretch.repeat (suc n) b ∷ r) (Stretch.literal a [] ∷ Stretch.repeat n b ∷ r))
-          ≡ Stretch.absent 1 ∷ cond t (Stretch.repeat (suc n) b ∷ r) (Stretch.literal a [] ∷ Stretch.repeat n b ∷ r)
-      go true = refl
-      go false = refl
-  before-some a (Stretch.literal b bs ∷ r) = go (same a b)
-    where
-      go : (t : Bool) → joinNone (cond t (Stretch.repeat 2 b ∷ literalOf bs r) (Stretch.literal a (b ∷ bs) ∷ r))
-          ≡ Stretch.absent 1 ∷ cond t (Stretch.repeat 2 b ∷ literalOf bs r) (Stretch.literal a (b ∷ bs) ∷ r)
-      go true = refl
-      go false = refl
-
-  -- the list does not begin with an absent reading; it does not begin with a value
-  abbrev pub NoAbsent : List (Option A) → Type 0
-  NoAbsent [] = Unit {0}
-  NoAbsent (none ∷ ys) = ⊥
-  NoAbsent (some b ∷ ys) = Unit {0}
-
-  abbrev pub NoValue : List (Option A) → Type 0
-  NoValue [] = Unit {0}
-  NoValue (none ∷ ys) = Unit {0}
-  NoValue (some b ∷ ys) = ⊥
-
-  absent-cut : (n : ℕ) (ys : List (Option A)) → NoAbsent ys → stretches same (replicate (suc n) none ++ ys) ≡ Stretch.absent (suc n) ∷ stretches same ys
-  unfolding joinNone stretches
-  absent-cut zero [] h = refl
-  absent-cut zero (none ∷ ys) h = absurd h
-  absent-cut zero (some a ∷ ys) h = before-some a (stretches same ys)
-  absent-cut (suc n) ys h = ap joinNone (absent-cut n ys h)
-
-  repeats-front : (m : ℕ) (a : A) (r : List (Stretch A)) → joinSome same a (repeats same m a r) ≡ repeats same m a (joinSome same a r)
-  unfolding repeats
-  repeats-front zero a r = refl
-  repeats-front (suc m) a r = repeats-front m a (joinSome same a r)
-
-  repeats-cut : (m : ℕ) (a : A) (ys : List (Option A)) → stretches same (replicate m (some a) ++ ys) ≡ repeats same m a (stretches same ys)
-  unfolding repeats stretches
-  repeats-cut zero a ys = refl
-  repeats-cut (suc m) a ys = ap (joinSome same a) (repeats-cut m a ys) ∙ repeats-front m a (stretches same ys)
-
-  joined : (l : List A) (ys : List (Option A)) → stretches same (map some l ++ ys) ≡ joinAll same l (stretches same ys)
-  unfolding stretches joinAll
-  joined [] ys = refl
-  joined (a ∷ l) ys = ap (joinSome same a) (joined l ys)
-
-  off-ended : (a : A) (ys : List (Option A)) → NoValue ys → Off same a (stretches same ys)
-  unfolding stretches
-  off-ended a [] h = tt
-  off-ended a (none ∷ ys) h = off-none same a (stretches same ys)
-  off-ended a (some b ∷ ys) h = absurd h
-
-  closed-ended : (ys : List (Option A)) → NoValue ys → Closed (stretches same ys)
-  unfolding stretches
-  closed-ended [] h = tt
-  closed-ended (none ∷ ys) h = closed-none same (stretches same ys)
-  closed-ended (some b ∷ ys) h = absurd h
-
   -- a value behind those that are pending becomes one of them
   apart-more : (b : A) (l : List A) (a : A) (r : List (Stretch A)) → Off same a r → Apart same b l (Stretch.literal a [] ∷ []) → Apart same b (l ++ (a ∷ [])) r
   apart-more b [] a r o h = (h, o)
@@ -103,10 +42,6 @@ module _ {A : Type 0} (same : A → A → Bool) where
   pending-run : (l : List A) (a : A) (n : ℕ) (r : List (Stretch A)) → Pending same l (Stretch.literal a [] ∷ []) → Pending same l (Stretch.repeat n a ∷ r)
   pending-run [] a n r h = tt
   pending-run (b ∷ l) a n r h = apart-run b l a n r h
-
-pub some-more : {A : Type 0} (l : List A) (a : A) (ys : List (Option A)) → map some l ++ (some a ∷ ys) ≡ map some (l ++ (a ∷ [])) ++ ys
-some-more [] a ys = refl
-some-more {A} (b ∷ l) a ys = ap (λ (m : List (Option A)). some b ∷ m) (some-more l a ys)
 
 -- ---- and their bytes
 

@@ -17,6 +17,7 @@ use Rattle.encoding.specs.Element.{Element}
 use Rattle.encoding.specs.Stretches.{Stretch, stretches}
 use Rattle.encoding.specs.Writer.{allBytes, stretchesBytes, anyPresent, columnBytes}
 use Rattle.encoding.specs.Ahead.{Off}
+use Rattle.encoding.proofs.Fronts.{NoAbsent, NoValue, some-more}
 use Rattle.encoding.proofs.Lists.{cond-by}
 use Rattle.encoding.proofs.Looking.{off-none, off-some}
 use Rattle.rewriting.specs.Cutter.{
@@ -36,18 +37,7 @@ use Rattle.rewriting.specs.Cutter.{
   finishedOf,
   spending,
 }
-use Rattle.rewriting.proofs.Costs.{
-  Pending,
-  NoAbsent,
-  NoValue,
-  cost,
-  some-more,
-  all-more,
-  pending-more,
-  absent-cost,
-  single-cost,
-  several-cost,
-}
+use Rattle.rewriting.proofs.Costs.{Pending, cost, all-more, pending-more, absent-cost, single-cost, several-cost}
 use Rattle.rewriting.proofs.Room.{spent-more, none-spent}
 
 -- ---- readings in a row

@@ -9,7 +9,7 @@ use mathlib.Core.Bool.{Bool, true, false}
 use lib.IntN.{ℤ}
 use lib.ListN.{length-map}
 use native.Mathlib.Omega.{arith}
-use Rattle.encoding.specs.Column.{Reading, absent, present, value, trace}
+use Rattle.encoding.specs.Column.{Reading, absent, present, value, trace, values}
 use Rattle.encoding.specs.Element.{Element}
 use Rattle.encoding.specs.Walk.{Trace, sound}
 use Rattle.encoding.specs.Writer.{anyPresent, columnBytes}
@@ -31,7 +31,7 @@ use Rattle.boolean_encoder.proofs.Back as boolean
 use Rattle.boolean_encoder.proofs.Writing.{read-flags}
 use Rattle.text.specs.Text.{textE}
 use Rattle.text.proofs.TextLaws.{text-laws}
-use Rattle.salvage.specs.Fresh.{values, Fresh}
+use Rattle.salvage.specs.Fresh.{Fresh}
 use Rattle.salvage.specs.Kept.{Bytes}
 
 -- ---- optional readings: a value is present, or none is

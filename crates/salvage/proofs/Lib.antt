@@ -1,3 +1,4 @@
+pub mod Answering
 pub mod Certain
 pub mod CertainSums
 pub mod Columns
@@ -9,7 +10,6 @@ pub mod Mended
 pub mod Mending
 pub mod Room
 pub mod Saving
-pub mod Sizes
 pub mod Slots
 pub mod Staying
 pub mod Sums

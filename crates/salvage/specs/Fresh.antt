@@ -2,15 +2,9 @@
 use Prim.Native.Nat.{ℕ}
 use mathlib.Core.Logic.{_⊎_}
 use mathlib.Core.Path.{_≡_}
-use mathlib.Core.List.{List, [], map}
-use mathlib.Core.Option.{Option}
-use Rattle.encoding.specs.Column.{Reading, value}
+use mathlib.Core.List.{List, []}
 use Rattle.encoding.specs.Walk.{Trace}
 use Rattle.encoding.specs.Walk as walk
-
--- the readings of a trace without their places
-abbrev pub values : {A : Type 0} → Trace (Reading A) → Trace (Option A)
-values t = record { readings = map value (t .readings); ending = t .ending }
 
 -- it is sound; it reads back as what was kept, or else no kept reading is present, nothing is written, and that reads as the empty list; and salvaged
 -- again it gives the same bytes

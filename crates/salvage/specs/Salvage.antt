@@ -4,8 +4,7 @@
 use Prim.Native.Nat.{ℕ}
 use mathlib.Core.Path.{_≡_}
 use mathlib.Core.List.{List, _++_, map}
-use mathlib.Core.Bool.{Bool, cond, _||_}
-use lib.Dec.{eqb}
+use mathlib.Core.Bool.{Bool, cond}
 use lib.ListN.{length, drop}
 use Rattle.leb128.specs.Answer.{Answer, done, refused, within}
 use Rattle.encoding.specs.Column.{Reading}
@@ -16,19 +15,6 @@ use Rattle.text.specs.Name.{startOf, lengthOf}
 use Rattle.text_decoder.specs.Slots.{decodingNames}
 use Rattle.salvage.specs.declared.Salvaged.{Salvaged}
 use Rattle.salvage.specs.declared.Salvaged.the-variants as salvaged
-
--- 17: the types that a call serves (01, "Specifications": 1 Actor, 2 Integer, 3 DeltaInteger, 4 Boolean, 5 String)
-abbrev pub integerType : ℕ → Bool
-integerType t = eqb t 1 || eqb t 2
-
-abbrev pub deltaType : ℕ → Bool
-deltaType t = eqb t 3
-
-abbrev pub booleanType : ℕ → Bool
-booleanType t = eqb t 4
-
-abbrev pub textType : ℕ → Bool
-textType t = eqb t 5
 
 -- how many readings were kept and bytes written, and the column's fault, 0 and 0 where there is none; or the call's own refusal
 pub data Outcome : Type 0 where

@@ -3,13 +3,12 @@ use Prim.Native.Nat.{ℕ}
 use mathlib.Core.Path.{_≡_, refl, sym, ap, _∙_}
 use mathlib.Core.List.{List}
 use lib.ListN.{length-map}
-use Rattle.encoding.specs.Column.{Reading, value, trace}
+use Rattle.encoding.specs.Column.{Reading, value, trace, values}
 use Rattle.encoding.specs.Walk.{Trace, outcomeOf, outcome}
 use Rattle.rle_decoder.specs.Word.{u64E}
 use Rattle.delta_decoder.specs.Sums.{deltaTrace}
 use Rattle.boolean_decoder.specs.Turns.{boolTrace}
 use Rattle.text.specs.Text.{textE}
-use Rattle.splice.specs.Kind.{values}
 use Rattle.splice.specs.Kinds.{integer, delta, boolean, text}
 use Rattle.splice.specs.Steps.{countAs}
 use Rattle.splice.specs.declared.ColumnKind.{ColumnKind}

@@ -11,12 +11,12 @@ use lib.Seq.{take-at}
 use borrow.Author.Tests.{le-leb, eq-eqb, eqb-true}
 use Rattle.leb128.specs.Answer.{Answer, done, refused, within, left}
 use Rattle.encoding.specs.Given.{slotList, badFlag}
-use Rattle.encoding.specs.Column.{Reading, value}
+use Rattle.encoding.specs.Column.{Reading, value, values}
 use Rattle.encoding.specs.Slots.{slotOf, flagOf, decoding, Decoded}
 use Rattle.encoding.specs.Walk.{Trace, outcome}
 use Rattle.slots.specs.Splice.{spliced, inSlots}
 use Rattle.slots.proofs.Splicing.{map-spliced}
-use Rattle.splice.specs.Kind.{Kind, values}
+use Rattle.splice.specs.Kind.{Kind}
 use Rattle.splice.specs.Edit.{Edited, endIn, flagsIn, givenOptional, refusal, answered, slotsLeft, outLeft}
 use Rattle.splice.specs.declared.End.{End}
 use Rattle.splice.specs.Contract.{slotIn, flagIn, OptionalSpliced}

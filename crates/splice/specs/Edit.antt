@@ -4,10 +4,11 @@
 use Prim.Native.Nat.{ℕ, _+_, max}
 use mathlib.Core.List.{List, _++_}
 use mathlib.Core.Option.{Option, none, some}
-use mathlib.Core.Bool.{Bool, false, cond, _&&_, _||_}
+use mathlib.Core.Bool.{Bool, false, cond, _&&_}
 use lib.Dec.{ltb, leb, eqb}
 use lib.ListN.{length, getD, take, drop}
 use Rattle.leb128.specs.Answer.{Answer, done, refused}
+use Rattle.column_specification.specs.Served.{integerType, deltaType, booleanType, textType}
 use Rattle.column_specification.specs.Specification.{typeOf}
 use Rattle.encoding.specs.Limit.{limit}
 use Rattle.encoding.specs.Walk.{outcome}
@@ -42,12 +43,12 @@ abbrev pub below : ℕ → End → Bool
 below start (ending.At e) = ltb e start
 below start ending.OfList = false
 
--- refusal 17: is the specification's type one of the kind? (01, "Specifications": 1 Actor, 2 Integer, 3 DeltaInteger, 4 Boolean, 5 String)
+-- refusal 17: is the specification's type one of the kind?
 unfoldable pub serves : ColumnKind → ℕ → Bool
-serves kind.Integer spec = eqb (typeOf spec) 1 || eqb (typeOf spec) 2
-serves kind.Delta spec = eqb (typeOf spec) 3
-serves kind.Boolean spec = eqb (typeOf spec) 4
-serves kind.Text spec = eqb (typeOf spec) 5
+serves kind.Integer spec = integerType (typeOf spec)
+serves kind.Delta spec = deltaType (typeOf spec)
+serves kind.Boolean spec = booleanType (typeOf spec)
+serves kind.Text spec = textType (typeOf spec)
 
 -- refusal 8 of an edit: the lengths of the slots and of the new list first, then the first bad byte of the new readings
 abbrev pub flagsIn : Option ℕ → Answer

@@ -4,7 +4,7 @@ use mathlib.Core.List.{List}
 use mathlib.Core.Option.{Option, none}
 use mathlib.Core.Bool.{true, false}
 use lib.IntN.{ℤ, pos}
-use Rattle.encoding.specs.Column.{trace}
+use Rattle.encoding.specs.Column.{trace, values}
 use Rattle.encoding.specs.Writer.{columnBytes}
 use Rattle.rle_decoder.specs.Word.{u64E}
 use Rattle.delta_decoder.specs.Sums.{deltaTrace}
@@ -12,7 +12,7 @@ use Rattle.delta_encoder.specs.Differences.{differences, deltaBytes, wideAt}
 use Rattle.boolean_decoder.specs.Turns.{boolTrace}
 use Rattle.boolean_encoder.specs.Writer.{boolBytes}
 use Rattle.text.specs.Text.{textE}
-use Rattle.splice.specs.Kind.{Kind, values}
+use Rattle.splice.specs.Kind.{Kind}
 use Rattle.splice.specs.declared.ColumnKind.the-variants as kind
 
 abbrev pub integer : Kind (Option ℕ)

@@ -4,13 +4,14 @@ use Prim.Native.Nat.{ℕ, zero, suc, _+_, _≤_, _<_}
 use mathlib.Core.Path.{_≡_, refl, sym, _∙_, ap, subst}
 use mathlib.Core.List.{List, [], _∷_, _++_, map, append-assoc}
 use mathlib.Core.Option.{Option, none, some}
-use mathlib.Core.Bool.{Bool, true, false, cond}
+use mathlib.Core.Bool.{Bool, true}
 use native.Mathlib.Omega.{arith}
 use lib.ListN.{length, take, drop, replicate, length-append, length-replicate, replicate-append-replicate, length-map}
 use lib.Seq.{take-at, drop-at}
-use Rattle.encoding.specs.Stretches.{Stretch, literalOf, joinNone, joinSome, stretches}
-use Rattle.encoding.specs.Ahead.{repeats, joinAll, Off, Closed, Apart}
+use Rattle.encoding.specs.Stretches.{Stretch, stretches}
+use Rattle.encoding.specs.Ahead.{joinAll, Off, Closed, Apart}
 use Rattle.encoding.specs.declared.StretchEnd.the-variants as stretch
+use Rattle.encoding.proofs.Fronts.{NoAbsent, absent-cut, repeats-cut, joined, some-more}
 use Rattle.encoding.proofs.Looking.{closed-twice, repeats-end, literal-end, apart-more}
 use Rattle.text_encoder.specs.Cuts.{somes, firstOf, literalIn, CutOf, RepeatOf}
 
@@ -50,37 +51,7 @@ module _ {A : Type 0} where
 -- ---- absent readings
 
 module _ {A : Type 0} (same : A → A → Bool) where
-  -- the list does not begin with an absent reading
-  abbrev pub Begun : List (Option A) → Type 0
-  Begun [] = Unit {0}
-  Begun (none ∷ xs) = ⊥
-  Begun (some a ∷ xs) = Unit {0}
-
-  before-some : (a : A) (r : List (Stretch A)) → joinNone (joinSome same a r) ≡ Stretch.absent 1 ∷ joinSome same a r
-  unfolding joinNone joinSome
-  before-some a [] = refl
-  before-some a (Stretch.absent n ∷ r) = refl
-  before-some a (Stretch.repeat n b ∷ r) = go (same a b)
-    where
-      go : (t : Bool) → joinNone (cond t (Stretch.repeat (suc n) b ∷ r) (Stretch.literal a [] ∷ Stretch.repeat n b ∷ r))
-          ≡ Stretch.absent 1 ∷ cond t (Stretch.repeat (suc n) b ∷ r) (Stretch.literal a [] ∷ Stretch.repeat n b ∷ r)
-      go true = refl
-      go false = refl
-  before-some a (Stretch.literal b bs ∷ r) = go (same a b)
-    where
-      go : (t : Bool) → joinNone (cond t (Stretch.repeat 2 b ∷ literalOf bs r) (Stretch.literal a (b ∷ bs) ∷ r))
-          ≡ Stretch.absent 1 ∷ cond t (Stretch.repeat 2 b ∷ literalOf bs r) (Stretch.literal a (b ∷ bs) ∷ r)
-      go true = refl
-      go false = refl
-
-  absent-cut : (n : ℕ) (ys : List (Option A)) → Begun ys → stretches same (replicate (suc n) none ++ ys) ≡ Stretch.absent (suc n) ∷ stretches same ys
-  unfolding joinNone stretches
-  absent-cut zero [] h = refl
-  absent-cut zero (none ∷ ys) h = absurd h
-  absent-cut zero (some a ∷ ys) h = before-some a (stretches same ys)
-  absent-cut (suc n) ys h = ap joinNone (absent-cut n ys h)
-
-  pub absent-stretch : (d : A) (m : ℕ) (xs ys : List (Option A)) → 0 < m → xs ≡ replicate m none ++ ys → Begun ys
+  pub absent-stretch : (d : A) (m : ℕ) (xs ys : List (Option A)) → 0 < m → xs ≡ replicate m none ++ ys → NoAbsent same ys
       → CutOf same d xs (stretch.Absent m) ys
   absent-stretch d zero xs ys l e h = absurd (omega arith)
   absent-stretch d (suc n) xs ys l e h =
@@ -90,20 +61,10 @@ module _ {A : Type 0} (same : A → A → Bool) where
         within = omega arith;
         whole = tt;
         behind = same-behind (suc n) none xs ys e;
-        cuts = ap (stretches same) e ∙ absent-cut n ys h;
+        cuts = ap (stretches same) e ∙ absent-cut same n ys h;
       }
 
   -- ---- equal values
-
-  repeats-front : (m : ℕ) (a : A) (r : List (Stretch A)) → joinSome same a (repeats same m a r) ≡ repeats same m a (joinSome same a r)
-  unfolding repeats
-  repeats-front zero a r = refl
-  repeats-front (suc m) a r = repeats-front m a (joinSome same a r)
-
-  repeats-cut : (m : ℕ) (a : A) (ys : List (Option A)) → stretches same (replicate m (some a) ++ ys) ≡ repeats same m a (stretches same ys)
-  unfolding repeats stretches
-  repeats-cut zero a ys = refl
-  repeats-cut (suc m) a ys = ap (joinSome same a) (repeats-cut m a ys) ∙ repeats-front m a (stretches same ys)
 
   pub repeat-of : (a : A) (m : ℕ) (xs ys : List (Option A)) → 0 < m → xs ≡ replicate m (some a) ++ ys → Off same a (stretches same ys)
       → RepeatOf same a xs m ys
@@ -113,7 +74,7 @@ module _ {A : Type 0} (same : A → A → Bool) where
         later = l;
         within = omega arith;
         behind = same-behind m (some a) xs ys e;
-        cuts = ap (stretches same) e ∙ repeats-cut m a ys;
+        cuts = ap (stretches same) e ∙ repeats-cut same m a ys;
         off = o;
       }
 
@@ -160,15 +121,6 @@ module _ {A : Type 0} (same : A → A → Bool) where
   somes-back [] = refl
   somes-back (a ∷ l) = ap (λ (m : List A). a ∷ m) (somes-back l)
 
-  joined : (l : List A) (ys : List (Option A)) → stretches same (map some l ++ ys) ≡ joinAll same l (stretches same ys)
-  unfolding stretches joinAll
-  joined [] ys = refl
-  joined (a ∷ l) ys = ap (joinSome same a) (joined l ys)
-
-  snoc : (l : List A) (b : A) (ys : List (Option A)) → map some l ++ (some b ∷ ys) ≡ map some (l ++ (b ∷ [])) ++ ys
-  snoc [] b ys = refl
-  snoc (a ∷ l) b ys = ap (λ (m : List (Option A)). some a ∷ m) (snoc l b ys)
-
   module _ (same-eq : (a b : A) → same a b ≡ true → a ≡ b) (same-self : (a : A) → same a a ≡ true) where
     pub unlike-more : (b : A) (xs ys zs : List (Option A)) (k : ℕ) → Unlike xs ys k → ys ≡ some b ∷ zs → Off same b (stretches same (drop 1 ys))
         → Unlike xs zs (k + 1)
@@ -178,7 +130,7 @@ module _ {A : Type 0} (same : A → A → Bool) where
         record {
           values = h .values ++ (b ∷ []);
           count = omega (arith, h .count);
-          split = h .split ∙ ap (λ (l : List (Option A)). map some (h .values) ++ l) e ∙ snoc (h .values) b zs;
+          split = h .split ∙ ap (λ (l : List (Option A)). map some (h .values) ++ l) e ∙ some-more (h .values) b zs;
           apart = λ a f.
               apart-more same same-eq same-self a (h .values) b (stretches same zs)
               (subst (λ (l : List (Option A)). Apart same a (h .values) (stretches same l)) e (h .apart a f))
@@ -199,7 +151,7 @@ module _ {A : Type 0} (same : A → A → Bool) where
           within = omega (arith, ap length s, length-append (map some l) ys);
           whole = ap length t ∙ sym (h .count);
           behind = sym (ap (drop k) s ∙ drop-at (map some l) ys k n);
-          cuts = ap (stretches same) s ∙ joined l ys
+          cuts = ap (stretches same) s ∙ joined same l ys
               ∙ literal-end same same-eq same-self a (h .values) (stretches same ys) (h .apart a f) c
               ∙ ap (λ (m : List A). literalIn m ∷ stretches same ys) (sym t);
         }

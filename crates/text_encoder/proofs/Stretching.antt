@@ -12,6 +12,7 @@ use Rattle.encoding.specs.Stretches.{stretches}
 use Rattle.encoding.specs.declared.StretchEnd.the-variants as stretch
 use Rattle.text.specs.Text.{sameBytes}
 use Rattle.text.proofs.TextLaws.{text-laws}
+use Rattle.encoding.proofs.Fronts.{NoAbsent}
 use Rattle.text_encoder.specs.Cuts.{CutOf, RepeatOf, PairedIn}
 use Rattle.text_encoder.specs.Walks.{heldIn, nameIn, sameOf, restOf, listOf, Going}
 use Rattle.text_encoder.specs.declared.walk.Held.{Held}
@@ -19,7 +20,7 @@ use Rattle.text_encoder.specs.declared.walk.Held.the-variants as held
 use Rattle.text_encoder.specs.declared.walk.Splicing.{Splicing}
 use Rattle.text_encoder.proofs.Alike.{held-none, held-name, same-true, off-end, off-other, closed-none-first}
 use Rattle.text_encoder.proofs.Passing.{walk-over}
-use Rattle.text_encoder.proofs.Cutting.{same-more, same-counts, piece-less, piece-first, Begun, absent-stretch, repeat-of, repeat-stretch, lone, closed-pair}
+use Rattle.text_encoder.proofs.Cutting.{same-more, same-counts, piece-less, piece-first, absent-stretch, repeat-of, repeat-stretch, lone, closed-pair}
 use Rattle.text_encoder.proofs.Cutting.{Unlike, unlike-start, unlike-counts, unlike-more, literal-stretch}
 
 -- ---- the same reading
@@ -89,12 +90,12 @@ module _ (column bytes : List ℕ) (new : List (Option (List ℕ))) (c₀ : ℕ)
 -- ---- what stands at w, for a stretch before it
 
 module _ (column bytes : List ℕ) (new : List (Option (List ℕ))) (w : Splicing) where
-  begun-end : Going column bytes new w → w .times ≤ 0 → Begun sameBytes (listOf column bytes new w)
-  begun-end g l = subst (Begun sameBytes) (sym (walk-over column bytes new w g l)) tt
+  begun-end : Going column bytes new w → w .times ≤ 0 → NoAbsent sameBytes (listOf column bytes new w)
+  begun-end g l = subst (NoAbsent sameBytes) (sym (walk-over column bytes new w g l)) tt
 
-  begun-held : 0 < w .times → (w .held ≡ held.Absent → ⊥) → Begun sameBytes (listOf column bytes new w)
+  begun-held : 0 < w .times → (w .held ≡ held.Absent → ⊥) → NoAbsent sameBytes (listOf column bytes new w)
   begun-held l f =
-      subst (Begun sameBytes)
+      subst (NoAbsent sameBytes)
       (sym (piece-first (w .times) (some (nameIn (heldIn column bytes (w .held)))) (heldIn column bytes (w .held)) (restOf column new w) l
       (held-name column bytes (w .held) f)))
       tt
@@ -117,7 +118,7 @@ module _ (column bytes : List ℕ) (new : List (Option (List ℕ))) (w : Splicin
 module _ (column bytes : List ℕ) (new : List (Option (List ℕ))) (s w₀ : Splicing) (c : ℕ) (w : Splicing)
     (at : Going column bytes new s) (absent : s .held ≡ held.Absent) (next : listOf column bytes new w₀ ≡ restOf column new s)
     (h : SameTo column bytes new none (s .times) w₀ c w) where
-  absents : Begun sameBytes (listOf column bytes new w) → CutOf sameBytes [] (listOf column bytes new s) (stretch.Absent c) (listOf column bytes new w)
+  absents : NoAbsent sameBytes (listOf column bytes new w) → CutOf sameBytes [] (listOf column bytes new s) (stretch.Absent c) (listOf column bytes new w)
   absents b =
       absent-stretch sameBytes [] c (listOf column bytes new s) (listOf column bytes new w) (h .later)
       (passed column bytes new none s w₀ (held-none column bytes (s .held) absent) next ∙ h .whole) b

@@ -5,7 +5,6 @@ use mathlib.Core.List.{List, _++_, map}
 use mathlib.Core.Bool.{Bool, true}
 use native.Mathlib.Omega.{arith}
 use lib.ListN.{length, getD, take, drop, length-map}
-use lib.Seq.{take-all}
 use borrow.Author.Tests.{eq-eqb}
 use Rattle.leb128.specs.Answer.{Answer, done, refused, within}
 use Rattle.encoding.specs.Column.{Reading, value, trace}
@@ -23,6 +22,7 @@ use Rattle.text_decoder.specs.Slots.{decodingNames, DecodedNames}
 use Rattle.rewriting.specs.Rewritten.{rewritten, rewrittenAs}
 use Rattle.rewriting.specs.declared.Values.the-variants as values
 use Rattle.salvage.specs.Salvage.{Outcome, saved, refusal, SavedNames}
+use Rattle.salvage.proofs.Answering.{all-values}
 use Rattle.salvage.proofs.Room.{size-found, size-refused}
 use Rattle.salvage.proofs.Saving.{names-10, names-done}
 use Rattle.salvage.proofs.Slots.{front, kept-values, kept-flags, written}
@@ -50,10 +50,7 @@ Put s a l p out out′ o = Encoded (columnBytes textE (nameList s a l p)) (names
 -- as many readings as survive are all of them
 all-rewritten : (s : List ℕ) (r : Survey) → r ≡ surveyOf (trace textE s) → rewrittenAs values.Names s (r .readings) ≡ fresh s
 unfolding rewrittenAs rewritten
-all-rewritten s r e =
-    let rs : List (Reading (List ℕ)) = trace textE s .readings in
-    let n = survey-readings (trace textE s) r e in
-    ap (columnBytes textE) (take-all (r .readings) (map value rs) (omega (arith, length-map rs value)))
+all-rewritten s r e = ap (columnBytes textE) (all-values (trace textE s) r e)
 
 module _ (s a l p out : List ℕ) (w : length a ≡ length l) (u : length l ≡ length p) (r : Survey) (e : r ≡ surveyOf (trace textE s)) (m : r .readings ≤ length l) where
   abbrev n : ℕ

@@ -307,18 +307,24 @@ pub fn chance_range(length: u64, random: &mut Random) -> (u64, Option<u64>) {
     (start, Some(end.max(start)))
 }
 
-/// One fault of the call.
-fn spoil(column: &Column, edit: &mut Edit, length: u64, random: &mut Random) {
-    match random.below(7) {
+/// One of five faults of where a call edits: its position, or its range in a list of so many readings.
+pub fn misplace<N>(which: u64, edit: &mut Edit<N>, length: u64, random: &mut Random) {
+    match which {
         0 => edit.position = edit.position.saturating_add(1 + random.below(3)),
         1 => edit.position = random.wide(),
         // another column, of which the call may not serve the type
         2 => edit.position = random.below(3),
         3 => edit.end = Some(edit.start.saturating_sub(1 + random.below(2))),
-        4 => {
+        _ => {
             edit.start = length + 1 + random.below(2);
             edit.end = edit.end.map(|end| end.max(edit.start));
         }
+    }
+}
+
+/// One fault of the call.
+fn spoil(column: &Column, edit: &mut Edit, length: u64, random: &mut Random) {
+    match random.below(7) {
         5 => {
             let bytes = edit.new.last_mut().unwrap();
             if !bytes.is_empty() {
@@ -326,10 +332,11 @@ fn spoil(column: &Column, edit: &mut Edit, length: u64, random: &mut Random) {
                 bytes[at] = 2 + random.below(254);
             }
         }
-        _ => {
+        6 => {
             let slice = random.below(column.served.slices as u64) as usize;
             edit.new[slice].push(0);
         }
+        which => misplace(which, edit, length, random),
     }
 }
 

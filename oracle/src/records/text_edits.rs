@@ -4,7 +4,7 @@
 
 use super::columns::{all_lists, Slices};
 use super::edited::{self, answered, called};
-use super::edits::{chance_block, chance_range, more_or_fewer, placed, spoil_bytes};
+use super::edits::{chance_block, chance_range, misplace, more_or_fewer, placed, spoil_bytes};
 use super::tables::{self, damage, Fault};
 use super::text::{chance, laid, spoil, wasteful, Names, KIND};
 use super::{comment, Options};
@@ -227,15 +227,7 @@ fn by_chance(out: &mut String, random: &mut Random) {
 /// One fault of the call, or a change that is none.
 fn spoil_call(edit: &mut Edit, length: u64, random: &mut Random) {
     match random.below(8) {
-        0 => edit.position = edit.position.saturating_add(1 + random.below(3)),
-        1 => edit.position = random.wide(),
-        // another column, which may be of another type
-        2 => edit.position = random.below(3),
-        3 => edit.end = Some(edit.start.saturating_sub(1 + random.below(2))),
-        4 => {
-            edit.start = length + 1 + random.below(2);
-            edit.end = edit.end.map(|end| end.max(edit.start));
-        }
+        which @ 0..=4 => misplace(which, edit, length, random),
         _ => spoil(&mut edit.new, random),
     }
 }

@@ -9,10 +9,10 @@ use borrow.Author.Tests.{eq-eqb, ne-eqb}
 use Rattle.encoding.specs.Cases.{answerOf}
 use Rattle.encoding.proofs.Via.{via}
 use Rattle.delta_decoder.specs.Sums.{deltaTrace}
-use Rattle.salvage.specs.Salvage.{deltaType}
+use Rattle.column_specification.specs.Served.{deltaType}
 use Rattle.salvage.proofs.Saving.{saved-17, saved-8, saved-9}
 use Rattle.salvage.proofs.Room.{size-found}
-use Rattle.salvage.proofs.Sizes.{saved-served, saved-too-long}
+use Rattle.salvage.proofs.Answering.{saved-served, saved-too-long}
 use Rattle.delta_salvage.proofs.Whole.{all-differences}
 use Rattle.delta_salvage.proofs.salvage.Statement.{statement}
 use Rattle.delta_salvage.proofs.salvage.Tie as tie

@@ -8,7 +8,7 @@ use lib.ListN.{getD}
 use borrow.Author.Needs.{needs}
 use Rattle.delta_decoder.specs.Sums.{deltaTrace}
 use Rattle.delta_encoder.specs.Differences.{deltaBytes, deltaJudged}
-use Rattle.salvage.proofs.Sizes.{saved-whole}
+use Rattle.salvage.proofs.Answering.{saved-whole}
 use Rattle.delta_salvage.proofs.Whole.{kept-narrow}
 use Rattle.delta_salvage.proofs.save.Statement.{statement}
 use Rattle.delta_salvage.proofs.save.Tie as tie

@@ -9,10 +9,10 @@ use Rattle.encoding.specs.Cases.{answerOf}
 use Rattle.encoding.specs.Column.{trace}
 use Rattle.encoding.proofs.Via.{via}
 use Rattle.rle_decoder.specs.Word.{u64E}
-use Rattle.salvage.specs.Salvage.{integerType}
+use Rattle.column_specification.specs.Served.{integerType}
 use Rattle.salvage.proofs.Saving.{saved-17, saved-8, saved-9}
 use Rattle.salvage.proofs.Room.{size-found}
-use Rattle.salvage.proofs.Sizes.{of-actors, of-integers, of-others, saved-served, saved-too-long}
+use Rattle.salvage.proofs.Answering.{of-actors, of-integers, of-others, saved-served, saved-too-long}
 use Rattle.rle_salvage.proofs.Whole.{all-words}
 use Rattle.rle_salvage.proofs.salvage.Statement.{statement}
 use Rattle.rle_salvage.proofs.salvage.Tie as tie

@@ -11,7 +11,7 @@ use Rattle.encoding.specs.Writer.{columnBytes}
 use Rattle.encoding.proofs.Limits.{trace-limit}
 use Rattle.rle_decoder.specs.Word.{u64E}
 use Rattle.rle_decoder.proofs.WordLaws.{u64-laws}
-use Rattle.salvage.proofs.Sizes.{saved-whole}
+use Rattle.salvage.proofs.Answering.{saved-whole}
 use Rattle.salvage.proofs.Slots.{kept-good}
 use Rattle.rle_salvage.proofs.save.Statement.{statement}
 use Rattle.rle_salvage.proofs.save.Tie as tie

@@ -17,7 +17,8 @@ use Rattle.encoding.specs.Survivors.{surveyOf, surviving}
 use Rattle.encoding.specs.Walk.{Trace}
 use Rattle.encoding.specs.declared.Survey.{Survey}
 use Rattle.encoding.proofs.Surveying.{survey-readings}
-use Rattle.salvage.specs.Salvage.{integerType, Outcome, saved, refusal, SavedOptional}
+use Rattle.column_specification.specs.Served.{integerType}
+use Rattle.salvage.specs.Salvage.{Outcome, saved, refusal, SavedOptional}
 use Rattle.salvage.proofs.Room.{size-refused}
 use Rattle.salvage.proofs.Saving.{saved-10, saved-done}
 use Rattle.salvage.proofs.Slots.{slots-list, front, kept-values, kept-flags, written}
