@@ -22,7 +22,7 @@ use Rattle.delta_encoder.specs.Differences.{differences, deltaBytes, wideAt, de
 use Rattle.delta_encoder.proofs.Back.{taken-off, delta-writable}
 use Rattle.delta_encoder.proofs.Writing.{judged-narrow}
 use Rattle.rewriting.specs.Rewritten.{rewritten, rewrittenAs}
-use Rattle.rewriting.specs.declared.Values.the-variants as values
+use Rattle.runs.specs.declared.Values.the-variants as values
 use Rattle.salvage.proofs.Slots.{slots-list, kept-good}
 
 -- ---- differences added up, and their sums' differences again

@@ -4,7 +4,6 @@ use Prim.Native.Nat.{ℕ, _+_, _-_}
 use mathlib.Core.Path.{_≡_, refl, sym, _∙_, ap}
 use mathlib.Core.List.{List}
 use mathlib.Core.Option.{Option, none, some}
-use lib.IntN.{ℤ}
 use native.Mathlib.Omega.{arith}
 use lib.ListN.{length}
 use Rattle.leb128.specs.Read.{u64At, i64At}
@@ -22,6 +21,7 @@ use Rattle.text.specs.Text.{textE}
 use Rattle.text.proofs.TextLaws.{text-laws}
 use Rattle.reason.specs.Reason.{
   Facts,
+  Count,
   Reason,
   signedCount,
   unsignedCount,
@@ -43,7 +43,7 @@ use Rattle.reason.proofs.Runs.{flat-walk, FallsAt, falls}
 
 -- a reason r of a fault: the run w of ws is at fault, behind n readings in all; `at` is where a run begins, `counted` what stands
 -- there, and `true` the facts
-pub record Tells {R S : Type 0} (ws : List (Walked R S)) (at : S → ℕ) (counted : S → Option ℤ) (true : S → Facts) (refusal site n : ℕ) (r : Reason)
+pub record Tells {R S : Type 0} (ws : List (Walked R S)) (at : S → ℕ) (counted : S → Count) (true : S → Facts) (refusal site n : ℕ) (r : Reason)
     : Type 0 where
   pub number : r .number ≡ refusal
   pub place : r .place ≡ site
@@ -54,7 +54,7 @@ pub record Tells {R S : Type 0} (ws : List (Walked R S)) (at : S → ℕ) (count
   pub count : r .count ≡ counted (run .state)
   pub facts : r .facts ≡ true (run .state)
 
-module _ {R S : Type 0} (M : Machine R S) (f : ℕ) (st : S) (none-had : M .had st ≡ 0) (at : S → ℕ) (counted : S → Option ℤ) (true : S → Facts) where
+module _ {R S : Type 0} (M : Machine R S) (f : ℕ) (st : S) (none-had : M .had st ≡ 0) (at : S → ℕ) (counted : S → Count) (true : S → Facts) where
   -- behind n readings in all, which is as many as the runs have
   pub tells : (number place n : ℕ) → flat (runs (M .run) f st) .ending ≡ fault number place → n ≡ length (flat (runs (M .run) f st) .readings)
       → (r : Reason) × (told number place n at counted true (holding (M .had) n 0 (runs (M .run) f st)) ≡ some r)

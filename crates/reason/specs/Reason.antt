@@ -28,12 +28,19 @@ pub data Facts : Type 0 where
   passes : ℕ → ℕ → Facts
   sum : ℤ → ℤ → Facts
 
+-- "the count read there if one was read": a sign and a number
+pub data Count : Type 0 where
+  unread : Count
+  plus : ℕ → Count
+  minus : ℕ → Count
+
+-- number and place as the ordinary call has them; the run at fault by its index, the byte where it begins and the count there; the index of the reading at fault
 pub record Reason : Type 0 where
   pub number : ℕ
   pub place : ℕ
   pub run : ℕ
   pub begins : ℕ
-  pub count : Option ℤ
+  pub count : Count
   pub index : ℕ
   pub facts : Facts
 
@@ -44,13 +51,14 @@ unfoldable pub numberBytes : ℕ → List ℕ → ℕ
 numberBytes n [] = 0
 numberBytes n (b ∷ s) = let rest = suc (numberBytes (suc n) s) in cond (ltb b 128) 1 (cond (eqb n 9) 1 rest)
 
-abbrev pub signedCount : Got ℤ → Option ℤ
-signedCount (got c next) = some c
-signedCount (bad number place) = none
+abbrev pub signedCount : Got ℤ → Count
+signedCount (got (pos c) next) = plus c
+signedCount (got (negsuc c) next) = minus (suc c)
+signedCount (bad number place) = unread
 
-abbrev pub unsignedCount : Got ℕ → Option ℤ
-unsignedCount (got c next) = some (pos c)
-unsignedCount (bad number place) = none
+abbrev pub unsignedCount : Got ℕ → Count
+unsignedCount (got c next) = plus c
+unsignedCount (bad number place) = unread
 
 -- "the fact of 5 is how many readings the count asks for": of an absent run its second number
 abbrev pub second : Got ℕ → ℕ
@@ -94,7 +102,7 @@ delta (bad number place) = pos 0
 
 -- ---- the reason of a column's fault: n readings stand before it
 
-abbrev pub told : {R S : Type 0} → ℕ → ℕ → ℕ → (S → ℕ) → (S → Option ℤ) → (S → Facts) → Option (Fallen R S) → Option Reason
+abbrev pub told : {R S : Type 0} → ℕ → ℕ → ℕ → (S → ℕ) → (S → Count) → (S → Facts) → Option (Fallen R S) → Option Reason
 told number place n at count facts none = none
 told number place n at count facts (some f) =
     some (

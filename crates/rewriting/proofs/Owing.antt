@@ -17,40 +17,16 @@ use Rattle.encoding.specs.Writer.{columnBytes}
 use Rattle.encoding.proofs.Lists.{map-append, map-replicate}
 use Rattle.encoding.proofs.Elements.{ElementLaws}
 use Rattle.encoding.proofs.Columns.{trace-on, run-head, run-end, repeated-got, repeated-bad, literals-none, literals-on, literals-off}
-use Rattle.rle_decoder.proofs.WordLaws.{u64-laws}
-use Rattle.delta_decoder.proofs.DifferenceLaws.{i64-laws}
 use Rattle.text.proofs.TextLaws.{text-laws}
 use Rattle.rewriting.specs.Cutter.{Cut, fresh, fedOf, fedAll, finishedOf}
 use Rattle.rewriting.specs.Rewritten.{rewritten, rewrittenAs}
-use Rattle.rewriting.specs.Values.{plainE, elementOf, EndsAt, bytesIn, bytesOf, owedFrom, owedRepeat, owedLiterals}
-use Rattle.rewriting.specs.declared.Values.{Values}
-use Rattle.rewriting.specs.declared.Values.the-variants as values
-use Rattle.rewriting.specs.declared.ValueEnd.{ValueEnd}
-use Rattle.rewriting.specs.declared.ValueEnd.the-variants as valueEnd
+use Rattle.rewriting.specs.Values.{plainE, bytesIn, bytesOf, owedFrom, owedRepeat, owedLiterals}
+use Rattle.runs.specs.declared.Values.{Values}
+use Rattle.runs.specs.declared.Values.the-variants as values
+use Rattle.runs.specs.Values.{elementOf}
+use Rattle.runs.proofs.Ends.{elementLaws}
 use Rattle.rewriting.proofs.Cutting.{fed-append, fed-times, cut-whole}
 use Rattle.rewriting.proofs.Plain.{rewritten-plain}
-
-pub elementLaws : (v : Values) → ElementLaws (elementOf v .E)
-elementLaws values.Words = u64-laws
-elementLaws values.Differences = i64-laws
-elementLaws values.Names = text-laws
-
--- ---- where a value ends
-
--- a value of the sort that was asked for was read, or could not be
-module _ (s : List ℕ) (q : ℕ) (v w : Values) (e : v ≡ w) where
-  pub ends-at : (z : ℕ) → EndsAt (elementOf w .E) s q (valueEnd.At z) → EndsAt (elementOf v .E) s q (valueEnd.At z)
-  ends-at z h = subst (λ (v : Values). EndsAt (elementOf v .E) s q (valueEnd.At z)) (sym e) h
-
-  pub ends-not : EndsAt (elementOf w .E) s q valueEnd.Unreadable → EndsAt (elementOf v .E) s q valueEnd.Unreadable
-  ends-not h = subst (λ (v : Values). EndsAt (elementOf v .E) s q valueEnd.Unreadable) (sym e) h
-
--- by the arm that it came to
-pub ended : (v : Values) (s : List ℕ) (q : ℕ) {r k : ValueEnd} → EndsAt (elementOf v .E) s q r → r ≡ k → EndsAt (elementOf v .E) s q k
-ended v s q h e = subst (EndsAt (elementOf v .E) s q) e h
-
-pub end-near : (v : Values) (s : List ℕ) (q next : ℕ) → EndsAt (elementOf v .E) s q (valueEnd.At next) → (q < next) × (next ≤ length s)
-end-near v s q next h = (elementLaws v .ahead s q next (h .0) (h .1), elementLaws v .within s q next (h .0) (h .1))
 
 -- ---- the first of a list
 

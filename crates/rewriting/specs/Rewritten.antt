@@ -10,8 +10,8 @@ use Rattle.delta_decoder.specs.Difference.{i64E}
 use Rattle.text.specs.Text.{textE}
 use Rattle.boolean_decoder.specs.Turns.{boolTrace}
 use Rattle.boolean_encoder.specs.Writer.{boolBytes}
-use Rattle.rewriting.specs.declared.Values.{Values}
-use Rattle.rewriting.specs.declared.Values.the-variants as values
+use Rattle.runs.specs.declared.Values.{Values}
+use Rattle.runs.specs.declared.Values.the-variants as values
 
 -- the first `most` of the readings before the first faulty one, as a fresh column
 unfoldable pub rewritten : {A : Type 0} → Element A → List ℕ → ℕ → List ℕ

@@ -1,23 +1,16 @@
 -- The values of a run-length column as the bytes that stand for them, whatever they are: our encoding is the only one that is read, so values are
 -- equal where their bytes are, and are written as they stand. Private functions promise by it; no public promise cites it.
 use Prim.Native.Nat.{ℕ, _+_, _-_, _≤_}
-use mathlib.Core.Path.{_≡_}
 use mathlib.Core.List.{List, map}
 use mathlib.Core.Option.{Option, none, some}
 use mathlib.Core.Bool.{Bool, true, false}
 use lib.ListN.{length, take, drop}
-use Rattle.leb128.specs.Got.{got, bad}
+use Rattle.leb128.specs.Got.{bad}
 use Rattle.encoding.specs.Cases.{answerOf}
 use Rattle.encoding.specs.Element.{Element}
 use Rattle.encoding.specs.Column.{Reading, absent, present, spot, repeated, literals, traceFrom}
 use Rattle.encoding.specs.Walk.{Trace, onward}
-use Rattle.rle_decoder.specs.Word.{u64E}
-use Rattle.delta_decoder.specs.Difference.{i64E}
-use Rattle.text.specs.Text.{sameBytes, textE}
-use Rattle.rewriting.specs.declared.Values.{Values}
-use Rattle.rewriting.specs.declared.Values.the-variants as values
-use Rattle.rewriting.specs.declared.ValueEnd.{ValueEnd}
-use Rattle.rewriting.specs.declared.ValueEnd.the-variants as valueEnd
+use Rattle.text.specs.Text.{sameBytes}
 use Rattle.rewriting.specs.declared.cutter.Held.{Held}
 use Rattle.rewriting.specs.declared.cutter.Held.the-variants as held
 use Rattle.rewriting.specs.declared.cutter.Cutter.{Cutter}
@@ -28,16 +21,6 @@ use Rattle.rewriting.specs.Cutter as spec
 -- bytes as an element, for its writer: written as they are
 abbrev pub plainE : Element (List ℕ)
 plainE = record { read = λ s p. bad 0 0; write = λ w. w; same = sameBytes; fits = λ w. true }
-
--- an element, whatever its values are
-pub record Some : Type 1 where
-  pub A : Type 0
-  pub E : Element A
-
-abbrev pub elementOf : Values → Some
-elementOf values.Words = record { A = ℕ; E = u64E }
-elementOf values.Differences = record { A = _; E = i64E }
-elementOf values.Names = record { A = List ℕ; E = textE }
 
 -- a reading as the bytes of its value
 abbrev pub bytesIn : {A : Type 0} → Element A → Reading A → Option (List ℕ)
@@ -57,11 +40,6 @@ isValue (held.Value from till) = true
 abbrev pub Within : List ℕ → Held → Type 0
 Within s held.Absent = Unit {0}
 Within s (held.Value from till) = (from ≤ till) × (till ≤ length s)
-
--- where the value at q ends, if it can be read
-abbrev pub EndsAt : {A : Type 0} → Element A → List ℕ → ℕ → ValueEnd → Type 0
-EndsAt {A} E s q (valueEnd.At next) = (a : A) × (E .read s q ≡ got a next)
-EndsAt E s q valueEnd.Unreadable = (number : ℕ) × (place : ℕ) × (E .read s q ≡ bad number place)
 
 -- what is known of the list so far, as the code has it
 abbrev pub cutOf : List ℕ → Cutter → Cut (List ℕ)

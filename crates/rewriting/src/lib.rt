@@ -7,7 +7,8 @@ ghost use Rattle.encoding.specs.Cases.{answerOf};
 ghost use Rattle.encoding.specs.Limit.{limit};
 ghost use Rattle.rewriting.specs.Cutter.{fedAll};
 ghost use Rattle.rewriting.specs.Rewritten.{rewrittenAs};
-ghost use Rattle.rewriting.specs.Values.{plainE, elementOf, heldIn, Within, EndsAt, Kept, cutOf, owedFrom, owedLiterals, owedRepeat};
+ghost use Rattle.runs.specs.Values.{elementOf};
+ghost use Rattle.rewriting.specs.Values.{plainE, heldIn, Within, Kept, cutOf, owedFrom, owedLiterals, owedRepeat};
 
 pub mod cutter;
 pub mod turns;
@@ -18,47 +19,15 @@ use crate::cutter::fed;
 use crate::cutter::finished;
 use encoding::Answer;
 use encoding::Head;
-use leb128::ParsedI64;
-use leb128::ParsedU64;
-use text_decoder::Name;
-
-// What the values of a run-length column are: unsigned numbers, the differences of a delta column, or names.
-pub enum Values {
-    Words,
-    Differences,
-    Names,
-}
-
-// Behind a value, if it can be read.
-enum ValueEnd {
-    At(usize),
-    Unreadable,
-}
+use runs::ValueEnd;
+use runs::Values;
+use runs::value_end;
 
 // Behind some readings of a column: the position of the next run, the column's length where none follows, and how many readings came before it.
 struct Fed {
     cutter: Cutter,
     at: usize,
     had: u64,
-}
-
-fn value_end(s: &[u8], values: Values, q: usize) -> ValueEnd
-    ensures { λ r. ⌜ EndsAt (elementOf values .E) (now (s .entry)) q r ⌝ }
-{
-    match values {
-        Values::Words => match leb128::leb128_u64(s, q) {
-            ParsedU64::Number(_, next) => ValueEnd::At(next),
-            ParsedU64::Refused(_, _) => ValueEnd::Unreadable,
-        },
-        Values::Differences => match leb128::leb128_i64(s, q) {
-            ParsedI64::Number(_, next) => ValueEnd::At(next),
-            ParsedI64::Refused(_, _) => ValueEnd::Unreadable,
-        },
-        Values::Names => match text_decoder::name_at(s, q) {
-            Name::Found(start, len) => ValueEnd::At(start + len),
-            Name::Refused(_, _) => ValueEnd::Unreadable,
-        },
-    }
 }
 
 // n times a reading, but no more than `left`.
@@ -108,7 +77,7 @@ fn fed_literals(
                 at = next;
                 i += 1;
             }
-            ValueEnd::Unreadable => {
+            ValueEnd::Refused(_, _) => {
                 return Fed {
                     cutter: cutter,
                     at: s.len(),
@@ -147,7 +116,7 @@ fn fed_repeat(
             at: next,
             had: had + n,
         },
-        ValueEnd::Unreadable => Fed {
+        ValueEnd::Refused(_, _) => Fed {
             cutter: c,
             at: s.len(),
             had: had,

@@ -8,7 +8,7 @@ use Rattle.encoding.specs.Writer.{columnBytes}
 use Rattle.encoding.specs.declared.Survey.{Survey}
 use Rattle.rle_decoder.specs.Word.{u64E}
 use Rattle.rewriting.specs.Rewritten.{rewritten, rewrittenAs}
-use Rattle.rewriting.specs.declared.Values.the-variants as values
+use Rattle.runs.specs.declared.Values.the-variants as values
 use Rattle.salvage.proofs.Answering.{all-values}
 
 pub all-words : (s : List ℕ) (r : Survey) → r ≡ surveyOf (trace u64E s)

@@ -20,7 +20,7 @@ use Rattle.text.specs.Name.{startOf, lengthOf}
 use Rattle.text.specs.Text.{textE}
 use Rattle.text_decoder.specs.Slots.{decodingNames, DecodedNames}
 use Rattle.rewriting.specs.Rewritten.{rewritten, rewrittenAs}
-use Rattle.rewriting.specs.declared.Values.the-variants as values
+use Rattle.runs.specs.declared.Values.the-variants as values
 use Rattle.salvage.specs.Salvage.{Outcome, saved, refusal, SavedNames}
 use Rattle.salvage.proofs.Answering.{all-values}
 use Rattle.salvage.proofs.Room.{size-found, size-refused}

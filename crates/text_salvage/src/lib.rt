@@ -15,7 +15,7 @@ ghost use Rattle.column_specification.specs.Served.{textType};
 ghost use Rattle.salvage.specs.Salvage.{outcomeOf, SavedNames};
 use encoding::Answer;
 use encoding::Survey;
-use rewriting::Values;
+use runs::Values;
 use salvage::Salvaged;
 
 // The names in the first n slots as a column, at the front of the output.

@@ -5,8 +5,10 @@ use native.Mathlib.Omega.{arith}
 use lib.ListN.{length, getD}
 use borrow.Author.Needs.{needs}
 use Rattle.rewriting.specs.Cutter.{fedAll}
-use Rattle.rewriting.specs.Values.{plainE, elementOf, Kept, cutOf, owedLiterals}
-use Rattle.rewriting.proofs.Owing.{elementLaws, ended, end-near, literal-none, literal-bad, literal-end, fed-literal}
+use Rattle.runs.specs.Values.{elementOf}
+use Rattle.rewriting.specs.Values.{plainE, Kept, cutOf, owedLiterals}
+use Rattle.runs.proofs.Ends.{elementLaws, ended, end-near}
+use Rattle.rewriting.proofs.Owing.{literal-none, literal-bad, literal-end, fed-literal}
 use Rattle.rewriting.proofs.fed_literals.Statement.{statement}
 use Rattle.rewriting.proofs.fed_literals.Tie as tie
 
@@ -90,7 +92,7 @@ returns-2 c =
     let L = elementLaws (a .values) in
     let i = c .before .before .before .before .before .loop .inv in
     let r = ended (a .values) s _ (c .before .before .value-end .ensures) (c .enum-told .given .1) in (
-      i .4 ∙ ap (fedAll plainE (a .room) _) (literal-bad E s (a .most) L _ _ _ _ _ (c .before .before .before .before .loop-test .taken) (r .2)),
+      i .4 ∙ ap (fedAll plainE (a .room) _) (literal-bad E s (a .most) L _ _ _ _ _ (c .before .before .before .before .loop-test .taken) r),
       (i .3, omega (arith, i .0), omega (arith, i .1, i .2)),
     )
 

@@ -5,8 +5,10 @@ use native.Mathlib.Omega.{arith}
 use lib.ListN.{getD}
 use borrow.Author.Needs.{needs}
 use Rattle.rewriting.specs.Cutter.{fedAll}
-use Rattle.rewriting.specs.Values.{plainE, elementOf}
-use Rattle.rewriting.proofs.Owing.{elementLaws, ended, end-near, repeat-bad, fed-repeated}
+use Rattle.runs.specs.Values.{elementOf}
+use Rattle.rewriting.specs.Values.{plainE}
+use Rattle.runs.proofs.Ends.{elementLaws, ended, end-near}
+use Rattle.rewriting.proofs.Owing.{repeat-bad, fed-repeated}
 use Rattle.rewriting.proofs.fed_repeat.Statement.{statement}
 use Rattle.rewriting.proofs.fed_repeat.Tie as tie
 
@@ -56,7 +58,7 @@ returns-2 c =
     let L = elementLaws (a .values) in
     let p = c .before .before .before .before .pre in
     let r = ended (a .values) s _ (c .before .before .value-end .ensures) (c .enum-told .given .1) in (
-      ap (fedAll plainE (a .room) _) (repeat-bad E s (a .most) L _ _ _ _ _ (r .2)),
+      ap (fedAll plainE (a .room) _) (repeat-bad E s (a .most) L _ _ _ _ _ r),
       (p .1, omega (arith, p .0 .0), p .0 .2),
     )
 

@@ -6,8 +6,10 @@ use Rattle.encoding.specs.Cases.{headOf}
 use Rattle.encoding.proofs.Via.{via}
 use Rattle.encoding.proofs.Columns.{head-known}
 use Rattle.rewriting.specs.Cutter.{fedAll}
-use Rattle.rewriting.specs.Values.{plainE, elementOf}
-use Rattle.rewriting.proofs.Owing.{elementLaws, owed-repeat, owed-literal, owed-amiss, fed-absent}
+use Rattle.runs.specs.Values.{elementOf}
+use Rattle.rewriting.specs.Values.{plainE}
+use Rattle.runs.proofs.Ends.{elementLaws}
+use Rattle.rewriting.proofs.Owing.{owed-repeat, owed-literal, owed-amiss, fed-absent}
 use Rattle.rewriting.proofs.fed_run.Statement.{statement}
 use Rattle.rewriting.proofs.fed_run.Tie as tie
 

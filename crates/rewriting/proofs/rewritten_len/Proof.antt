@@ -5,8 +5,10 @@ use native.Mathlib.Omega.{arith}
 use lib.ListN.{length, getD}
 use Rattle.encoding.specs.Limit.{limit}
 use Rattle.rewriting.specs.Cutter.{fresh, fedAll}
-use Rattle.rewriting.specs.Values.{plainE, elementOf, Kept, cutOf, owedFrom}
-use Rattle.rewriting.proofs.Owing.{elementLaws, owed-none, owed-end, fed-whole}
+use Rattle.runs.specs.Values.{elementOf}
+use Rattle.rewriting.specs.Values.{plainE, Kept, cutOf, owedFrom}
+use Rattle.runs.proofs.Ends.{elementLaws}
+use Rattle.rewriting.proofs.Owing.{owed-none, owed-end, fed-whole}
 use Rattle.rewriting.proofs.rewritten_len.Statement.{statement}
 use Rattle.rewriting.proofs.rewritten_len.Tie as tie
 
