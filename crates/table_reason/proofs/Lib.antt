@@ -1,0 +1,3 @@
+pub mod Firsts
+pub mod Reading
+pub mod Telling
