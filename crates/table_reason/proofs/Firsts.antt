@@ -61,64 +61,71 @@ prior-on k spec specs (suc i) = refl
 pub fall-none : (k : ℕ) (specs : List ℕ) → inOrder k specs ≡ true → firstFall k specs ≡ length specs
 unfolding inOrder firstFall
 fall-none k [] e = refl
-fall-none k (spec ∷ specs) e = go (ltb (key spec) k) e
+fall-none k (spec ∷ specs) e = go (ltb (key spec) k) (fall-none (key spec) specs) e
   where
-    go : (b : Bool) → cond b false (inOrder (key spec) specs) ≡ true → cond b 0 (suc (firstFall (key spec) specs)) ≡ suc (length specs)
-    go true e = cc
-    go false e = ap suc (fall-none (key spec) specs e)
+    go : (b : Bool) → (inOrder (key spec) specs ≡ true → firstFall (key spec) specs ≡ length specs) → cond b false (inOrder (key spec) specs) ≡ true
+        → cond b 0 (suc (firstFall (key spec) specs)) ≡ suc (length specs)
+    go true r e = cc
+    go false r e = ap suc (r e)
 
-pub fall-is : (k : ℕ) (specs : List ℕ) → inOrder k specs ≡ false
-    → (firstFall k specs < length specs) × (key (getD specs (firstFall k specs) 0) < prior k specs (firstFall k specs))
+abbrev pub FallsAt : ℕ → List ℕ → ℕ → Type 0
+FallsAt k specs i = (i < length specs) × (key (getD specs i 0) < prior k specs i)
+
+pub fall-is : (k : ℕ) (specs : List ℕ) → inOrder k specs ≡ false → FallsAt k specs (firstFall k specs)
 unfolding inOrder firstFall
 fall-is k [] e = let z : _≡_ {A = ℕ} 0 1 = cc in absurd (omega arith)
-fall-is k (spec ∷ specs) e = go (ltb (key spec) k) refl e
+fall-is k (spec ∷ specs) e = go (ltb (key spec) k) refl (fall-is (key spec) specs) e
   where
-    go : (b : Bool) → ltb (key spec) k ≡ b → cond b false (inOrder (key spec) specs) ≡ false
-        → let i = cond b 0 (suc (firstFall (key spec) specs)) in
-        (i < suc (length specs)) × (key (getD (spec ∷ specs) i 0) < prior k (spec ∷ specs) i)
-    go true f e = (omega arith, ltb-true (key spec) k f)
-    go false f e = let r = fall-is (key spec) specs e in (omega (arith, r .0), rw (← prior-on k spec specs (firstFall (key spec) specs)) (r .1))
+    go : (b : Bool) → ltb (key spec) k ≡ b → (inOrder (key spec) specs ≡ false → FallsAt (key spec) specs (firstFall (key spec) specs))
+        → cond b false (inOrder (key spec) specs) ≡ false → FallsAt k (spec ∷ specs) (cond b 0 (suc (firstFall (key spec) specs)))
+    go true f r e = (omega arith, ltb-true (key spec) k f)
+    go false f r e = (omega (arith, r e .0), rw (← prior-on k spec specs (firstFall (key spec) specs)) (r e .1))
 
 pub fall-before : (k : ℕ) (specs : List ℕ) (j : ℕ) → j < firstFall k specs → prior k specs j ≤ key (getD specs j 0)
 unfolding firstFall
 fall-before k [] j h = absurd (omega arith)
-fall-before k (spec ∷ specs) j h = go (ltb (key spec) k) refl j h
+fall-before k (spec ∷ specs) j h = go (ltb (key spec) k) refl (fall-before (key spec) specs) j h
   where
-    go : (b : Bool) → ltb (key spec) k ≡ b → (j : ℕ) → j < cond b 0 (suc (firstFall (key spec) specs))
-        → prior k (spec ∷ specs) j ≤ key (getD (spec ∷ specs) j 0)
-    go true f j h = absurd (omega arith)
-    go false f zero h = ltb-false (key spec) k f
-    go false f (suc j) h = rw (← prior-on k spec specs j) (fall-before (key spec) specs j (omega arith))
+    go : (b : Bool) → ltb (key spec) k ≡ b → ((j : ℕ) → j < firstFall (key spec) specs → prior (key spec) specs j ≤ key (getD specs j 0)) → (j : ℕ)
+        → j < cond b 0 (suc (firstFall (key spec) specs)) → prior k (spec ∷ specs) j ≤ key (getD (spec ∷ specs) j 0)
+    go true f r j h = absurd (omega arith)
+    go false f r zero h = ltb-false (key spec) k f
+    go false f r (suc j) h = rw (← prior-on k spec specs j) (r j (omega arith))
 
 -- ---- the first that is compressed
 pub compressed-none : (specs : List ℕ) → plain specs ≡ true → firstCompressed specs ≡ length specs
 unfolding plain firstCompressed
 compressed-none [] e = refl
-compressed-none (spec ∷ specs) e = go (compressedOf spec) e
+compressed-none (spec ∷ specs) e = go (compressedOf spec) (compressed-none specs) e
   where
-    go : (b : Bool) → cond b false (plain specs) ≡ true → cond b 0 (suc (firstCompressed specs)) ≡ suc (length specs)
-    go true e = cc
-    go false e = ap suc (compressed-none specs e)
+    go : (b : Bool) → (plain specs ≡ true → firstCompressed specs ≡ length specs) → cond b false (plain specs) ≡ true
+        → cond b 0 (suc (firstCompressed specs)) ≡ suc (length specs)
+    go true r e = cc
+    go false r e = ap suc (r e)
 
-pub compressed-is : (specs : List ℕ) → plain specs ≡ false → (firstCompressed specs < length specs) × (compressedOf (getD specs (firstCompressed specs) 0) ≡ true)
+abbrev pub CompressedAt : List ℕ → ℕ → Type 0
+CompressedAt specs i = (i < length specs) × (compressedOf (getD specs i 0) ≡ true)
+
+pub compressed-is : (specs : List ℕ) → plain specs ≡ false → CompressedAt specs (firstCompressed specs)
 unfolding plain firstCompressed
 compressed-is [] e = let z : _≡_ {A = ℕ} 0 1 = cc in absurd (omega arith)
-compressed-is (spec ∷ specs) e = go (compressedOf spec) refl e
+compressed-is (spec ∷ specs) e = go (compressedOf spec) refl (compressed-is specs) e
   where
-    go : (b : Bool) → compressedOf spec ≡ b → cond b false (plain specs) ≡ false
-        → let i = cond b 0 (suc (firstCompressed specs)) in (i < suc (length specs)) × (compressedOf (getD (spec ∷ specs) i 0) ≡ true)
-    go true f e = (omega arith, f)
-    go false f e = let r = compressed-is specs e in (omega (arith, r .0), r .1)
+    go : (b : Bool) → compressedOf spec ≡ b → (plain specs ≡ false → CompressedAt specs (firstCompressed specs)) → cond b false (plain specs) ≡ false
+        → CompressedAt (spec ∷ specs) (cond b 0 (suc (firstCompressed specs)))
+    go true f r e = (omega arith, f)
+    go false f r e = (omega (arith, r e .0), r e .1)
 
 pub compressed-before : (specs : List ℕ) (j : ℕ) → j < firstCompressed specs → compressedOf (getD specs j 0) ≡ false
 unfolding firstCompressed
 compressed-before [] j h = absurd (omega arith)
-compressed-before (spec ∷ specs) j h = go (compressedOf spec) refl j h
+compressed-before (spec ∷ specs) j h = go (compressedOf spec) refl (compressed-before specs) j h
   where
-    go : (b : Bool) → compressedOf spec ≡ b → (j : ℕ) → j < cond b 0 (suc (firstCompressed specs)) → compressedOf (getD (spec ∷ specs) j 0) ≡ false
-    go true f j h = absurd (omega arith)
-    go false f zero h = f
-    go false f (suc j) h = compressed-before specs j (omega arith)
+    go : (b : Bool) → compressedOf spec ≡ b → ((j : ℕ) → j < firstCompressed specs → compressedOf (getD specs j 0) ≡ false) → (j : ℕ)
+        → j < cond b 0 (suc (firstCompressed specs)) → compressedOf (getD (spec ∷ specs) j 0) ≡ false
+    go true f r j h = absurd (omega arith)
+    go false f r zero h = f
+    go false f r (suc j) h = r j (omega arith)
 
 -- ---- whether there is one, from where the search ended
 module _ (specs : List ℕ) where

@@ -2,10 +2,10 @@
 ghost use mathlib.Core.Path.{_≡_};
 ghost use Prim.Native.Nat.{_+_, _*_, _^_, _≤_};
 ghost use lib.ListN.{length, take};
-ghost use Rattle.raw_column.specs.Table.{sum, rowsAt, faulty};
+ghost use Rattle.raw_column.specs.Table.{sum, rowsAt};
 ghost use Rattle.table_reason.specs.TableReason.{because, rowsRead, firstFall, firstCompressed, unread, lengthsReason, judgedReason, rowsReason, tableReason};
 ghost use Rattle.table_reason.specs.Cases.{rowOf, factsOf, toldOf};
-ghost use Rattle.table_reason.specs.Rows.{rowsOf};
+ghost use Rattle.table_reason.specs.Rows.{noRows, WasRead};
 use column_specification::ColumnSpec;
 use leb128::ParsedU32;
 use leb128::ParsedU64;
@@ -58,7 +58,7 @@ struct Sum {
 }
 
 fn no_rows(number: u8, place: usize, read: usize) -> Rows
-    ensures { λ r. ⌜ r ≡ rowsOf read (faulty number place) ⌝ }
+    ensures { λ r. ⌜ r ≡ noRows number place read ⌝ }
 {
     Rows {
         specs: [0u32; 64],
@@ -72,7 +72,7 @@ fn no_rows(number: u8, place: usize, read: usize) -> Rows
 
 fn read_rows(block: &[u8], at: usize, n: usize) -> Rows
     requires { ⌜ n ≤ 64 ⌝ }
-    ensures { λ r. ⌜ r ≡ rowsOf (rowsRead n (now (block .entry)) at) (rowsAt n (now (block .entry)) at) ⌝ }
+    ensures { λ r. ⌜ WasRead (now (block .entry)) at n r ⌝ }
 {
     let mut specs = [0u32; 64];
     let mut lens = [0u64; 64];

@@ -1,50 +1,57 @@
+-- `table_reason::first_compressed` meets its contract: i rows passed, and the first from there on, are the first of all. Assumes nothing.
+use mathlib.Core.Path.{_≡_, sym, _∙_}
+use Prim.Native.Nat.{_+_, _-_, _≤_, zero-le}
+use native.Mathlib.Omega.{arith}
+use lib.ListN.{take, drop}
+use borrow.Author.Needs.{needs}
+use denote.Ref.{now}
+use Rattle.table_reason.specs.TableReason.{firstCompressed}
+use Rattle.table_reason.proofs.Firsts.{compressed-hit, compressed-on, compressed-end}
 use Rattle.table_reason.proofs.first_compressed.Statement.{statement}
 use Rattle.table_reason.proofs.first_compressed.Tie as tie
-use Rattle.table_reason.proofs.first_compressed.Reads as reads
-use Rattle.table_reason.proofs.first_compressed.Lts as lts
-use Rattle.column_specification.proofs.ColumnSpec.deflate.Reads as deflate-reads
 
 abbrev Inv-loop : tie.InvT-loop
-Inv-loop specs n i₀ i = ?
+Inv-loop specs n i₀ i = (i ≤ n) × (i + firstCompressed (drop i (take n specs)) ≡ firstCompressed (take n specs))
 
 abbrev μ-loop : tie.MeasureT-loop
-μ-loop specs n i₀ i = ?
+μ-loop specs n i₀ i = n - i
 
--- src/lib.rt:133:5
 loop-holds : tie.Need-loop-holds Inv-loop μ-loop
-loop-holds c = ?
+loop-holds c = (zero-le, omega arith)
 
--- src/lib.rt:134:23
 mul-t6 : tie.Need-mul-t6 Inv-loop μ-loop
-mul-t6 c = ?
+mul-t6 c = search needs
 
--- src/lib.rt:134:23
 shared-slice-read-t8 : tie.Need-shared-slice-read-t8 Inv-loop μ-loop
-shared-slice-read-t8 c = ?
+shared-slice-read-t8 c = search needs
 
--- src/lib.rt:134:12
 deflate-requires : tie.Need-deflate-requires Inv-loop μ-loop
-deflate-requires c κs = ?
+deflate-requires c κs = search needs
 
--- src/lib.rt:135:13
 returns : tie.Need-returns Inv-loop μ-loop
-returns c = ?
+returns c =
+    let loop = c .before .before .before .before .loop in
+    let a = c .before .before .before .before .before .before .args in
+    omega (arith, compressed-hit (now (a .specs)) (a .n) (loop .i) (omega arith) (omega arith) (sym (c .before .deflate .ensures) ∙ c .if1 .taken), loop .inv .1)
 
--- src/lib.rt:137:9
 add-i : tie.Need-add-i Inv-loop μ-loop
-add-i c = ?
+add-i c = search needs
 
--- src/lib.rt:133:5
 loop-less : tie.Need-loop-less Inv-loop μ-loop
-loop-less c = ?
+loop-less c = search needs
 
--- src/lib.rt:133:5
 loop-again : tie.Need-loop-again Inv-loop μ-loop
-loop-again c = ?
+loop-again c =
+    let loop = c .before .before .before .before .loop in
+    let a = c .before .before .before .before .before .before .args in (
+      omega arith,
+      omega (arith, compressed-on (now (a .specs)) (a .n) (loop .i) (omega arith) (omega arith) (sym (c .before .deflate .ensures) ∙ c .if1 .left), loop .inv .1),
+    )
 
--- src/lib.rt:128:1
 returns-2 : tie.Need-returns-2 Inv-loop μ-loop
-returns-2 c = ?
+returns-2 c =
+    let a = c .before .before .before .args in
+    omega (arith, compressed-end (now (a .specs)) (a .n) (c .before .loop .i) (c .loop-test .left), c .before .loop .inv .1)
 
 pub first-compressed-spec : {M : Type 1} → statement M
 first-compressed-spec =

@@ -1,92 +1,97 @@
+-- `table_reason::read_rows` meets its contract: `Reading` holds at the loop's head, and each way out is a law of it. Assumes nothing.
+use mathlib.Core.Path.{subst, sym}
+use Prim.Native.Nat.{_-_}
+use native.Mathlib.Omega.{arith}
+use borrow.Author.Needs.{needs}
+use Rattle.leb128.specs.Cases.{u32Of, u64Of}
+use Rattle.encoding.proofs.Via.{via}
+use Rattle.table_reason.specs.Rows.{WasRead}
+use Rattle.table_reason.proofs.Reading.{Reading, reading-start, reading-bad, reading-bad-len, reading-turn, reading-out}
 use Rattle.table_reason.proofs.read_rows.Statement.{statement}
 use Rattle.table_reason.proofs.read_rows.Tie as tie
-use Rattle.table_reason.proofs.read_rows.Reads as reads
-use Rattle.table_reason.proofs.read_rows.Lts as lts
-use Rattle.leb128.proofs.leb128_u32.Reads as leb128-u32-reads
-use Rattle.leb128.proofs.leb128_u64.Reads as leb128-u64-reads
-use Rattle.table_reason.proofs.no_rows.Reads as no-rows-reads
 
 abbrev Inv-loop : tie.InvT-loop
-Inv-loop block at n specs₀ lens₀ i₀ p₀ specs lens i p = ?
+Inv-loop block at n specs₀ lens₀ i₀ p₀ specs lens i p = Reading block at n specs lens i p
 
 abbrev μ-loop : tie.MeasureT-loop
-μ-loop block at n specs₀ lens₀ i₀ p₀ specs lens i p = ?
+μ-loop block at n specs₀ lens₀ i₀ p₀ specs lens i p = n - i
 
--- src/lib.rt:81:5
 loop-holds : tie.Need-loop-holds Inv-loop μ-loop
-loop-holds c = ?
+loop-holds c = reading-start _ _ _
 
--- src/lib.rt:82:15
 leb128-u32-requires : tie.Need-leb128-u32-requires Inv-loop μ-loop
-leb128-u32-requires c κs = ?
+leb128-u32-requires c κs = search needs
 
--- src/lib.rt:83:32
 enum-known-number : tie.Need-enum-known-number Inv-loop μ-loop
-enum-known-number c = ?
+enum-known-number c = search needs
 
--- src/lib.rt:84:17
 no-rows-requires : tie.Need-no-rows-requires Inv-loop μ-loop
-no-rows-requires c κs = ?
+no-rows-requires c κs = search needs
 
--- src/lib.rt:84:17
 returns : tie.Need-returns Inv-loop μ-loop
-returns c = ?
+returns c =
+    let loop = c .before .before .before .before .before .before .loop in
+    let loop-test = c .before .before .before .before .before .loop-test in
+    let leb128-u32 = c .before .before .before .before .leb128-u32 in
+    subst (WasRead _ _ _) (sym (c .no-rows .ensures)) (reading-bad (loop .inv) (loop-test .taken)
+    (via u32Of (leb128-u32 .ensures) (c .before .before .number .given .1)))
 
--- src/lib.rt:86:31
 enum-known-spec : tie.Need-enum-known-spec Inv-loop μ-loop
-enum-known-spec c = ?
+enum-known-spec c = search needs
 
--- src/lib.rt:86:52
 leb128-u64-requires : tie.Need-leb128-u64-requires Inv-loop μ-loop
-leb128-u64-requires c κs = ?
+leb128-u64-requires c κs = search needs
 
--- src/lib.rt:87:36
 enum-known-number-2 : tie.Need-enum-known-number-2 Inv-loop μ-loop
-enum-known-number-2 c = ?
+enum-known-number-2 c = search needs
 
--- src/lib.rt:88:21
 no-rows-requires-2 : tie.Need-no-rows-requires-2 Inv-loop μ-loop
-no-rows-requires-2 c κs = ?
+no-rows-requires-2 c κs = search needs
 
--- src/lib.rt:88:21
 returns-2 : tie.Need-returns-2 Inv-loop μ-loop
-returns-2 c = ?
+returns-2 c =
+    let loop = c .before .before .before .before .before .before .before .before .before .before .loop in
+    let loop-test = c .before .before .before .before .before .before .before .before .before .loop-test in
+    let leb128-u32 = c .before .before .before .before .before .before .before .before .leb128-u32 in
+    let spec = c .before .before .before .before .before .before .spec in
+    let leb128-u64 = c .before .before .before .before .leb128-u64 in
+    let e = via u32Of (leb128-u32 .ensures) (spec .given .1) in
+    subst (WasRead _ _ _) (sym (c .no-rows2 .ensures)) (reading-bad-len (loop .inv) (loop-test .taken) e
+    (via u64Of (leb128-u64 .ensures) (c .before .before .number2 .given .1)))
 
--- src/lib.rt:90:35
 enum-known-len : tie.Need-enum-known-len Inv-loop μ-loop
-enum-known-len c = ?
+enum-known-len c = search needs
 
--- src/lib.rt:91:21
 mul-specs : tie.Need-mul-specs Inv-loop μ-loop
-mul-specs c = ?
+mul-specs c = search needs
 
--- src/lib.rt:91:21
 array-write-specs : tie.Need-array-write-specs Inv-loop μ-loop
-array-write-specs c = ?
+array-write-specs c = search needs
 
--- src/lib.rt:92:21
 mul-lens : tie.Need-mul-lens Inv-loop μ-loop
-mul-lens c = ?
+mul-lens c = search needs
 
--- src/lib.rt:92:21
 array-write-lens : tie.Need-array-write-lens Inv-loop μ-loop
-array-write-lens c = ?
+array-write-lens c = search needs
 
--- src/lib.rt:94:21
 add-i : tie.Need-add-i Inv-loop μ-loop
-add-i c = ?
+add-i c = search needs
 
--- src/lib.rt:81:5
 loop-less : tie.Need-loop-less Inv-loop μ-loop
-loop-less c = ?
+loop-less c = search needs
 
--- src/lib.rt:81:5
 loop-again : tie.Need-loop-again Inv-loop μ-loop
-loop-again c = ?
+loop-again c =
+    let loop = c .before .before .before .before .before .before .before .before .before .loop in
+    let loop-test = c .before .before .before .before .before .before .before .before .loop-test in
+    let leb128-u32 = c .before .before .before .before .before .before .before .leb128-u32 in
+    let spec = c .before .before .before .before .before .spec in
+    let leb128-u64 = c .before .before .before .leb128-u64 in
+    let e = via u32Of (leb128-u32 .ensures) (spec .given .1) in
+    reading-turn (loop .inv) (loop-test .taken) e (omega arith) (via u64Of (leb128-u64 .ensures) (c .before .len .given .1))
 
--- src/lib.rt:73:1
 returns-3 : tie.Need-returns-3 Inv-loop μ-loop
-returns-3 c = ?
+returns-3 c = reading-out (c .before .loop .inv) (c .loop-test .left)
 
 pub read-rows-spec : {M : Type 1} → statement M
 read-rows-spec =

@@ -1,61 +1,63 @@
+-- `table_reason::sum_of` meets its contract: what was added up and the lengths from i on are all of them. Assumes nothing.
+use mathlib.Core.Path.{_≡_}
+use mathlib.Core.Logic.{⊎-elim}
+use Prim.Native.Nat.{_+_, _*_, _-_, _^_, _≤_, _<_}
+use native.Mathlib.Omega.{arith}
+use lib.ListN.{take, drop}
+use borrow.Author.Needs.{needs}
+use denote.Ref.{now}
+use Rattle.raw_column.specs.Table.{sum}
+use Rattle.table_reason.proofs.Firsts.{sum-on, sum-end}
 use Rattle.table_reason.proofs.sum_of.Statement.{statement}
 use Rattle.table_reason.proofs.sum_of.Tie as tie
-use Rattle.table_reason.proofs.sum_of.Reads as reads
-use Rattle.table_reason.proofs.sum_of.Lts as lts
 
 abbrev Inv-loop : tie.InvT-loop
-Inv-loop lens n high₀ low₀ i₀ high low i = ?
+Inv-loop lens n high₀ low₀ i₀ high low i = (i ≤ n) × (high ≤ i) × (low < 2 ^ 64) × (high * 2 ^ 64 + low + sum (drop i (take n lens)) ≡ sum (take n lens))
 
 abbrev μ-loop : tie.MeasureT-loop
-μ-loop lens n high₀ low₀ i₀ high low i = ?
+μ-loop lens n high₀ low₀ i₀ high low i = n - i
 
--- src/lib.rt:149:5
 loop-holds : tie.Need-loop-holds Inv-loop μ-loop
-loop-holds c = ?
+loop-holds c = omega arith
 
--- src/lib.rt:150:17
 mul-l : tie.Need-mul-l Inv-loop μ-loop
-mul-l c = ?
+mul-l c = search needs
 
--- src/lib.rt:150:17
 shared-slice-read-l : tie.Need-shared-slice-read-l Inv-loop μ-loop
-shared-slice-read-l c = ?
+shared-slice-read-l c = search needs
 
--- src/lib.rt:151:20
 sub-room : tie.Need-sub-room Inv-loop μ-loop
-sub-room c = ?
+sub-room c = search needs
 
--- src/lib.rt:153:13
 add-high : tie.Need-add-high Inv-loop μ-loop
-add-high c = ?
+add-high c = search needs
 
--- src/lib.rt:154:19
 sub-low : tie.Need-sub-low Inv-loop μ-loop
-sub-low c = ?
+sub-low c = search needs
 
--- src/lib.rt:154:19
 sub-low-2 : tie.Need-sub-low-2 Inv-loop μ-loop
-sub-low-2 c = ?
+sub-low-2 c = search needs
 
--- src/lib.rt:156:13
 add-low : tie.Need-add-low Inv-loop μ-loop
-add-low c = ?
+add-low c = search needs
 
--- src/lib.rt:158:9
 add-i : tie.Need-add-i Inv-loop μ-loop
-add-i c = ?
+add-i c = search needs
 
--- src/lib.rt:149:5
 loop-less : tie.Need-loop-less Inv-loop μ-loop
-loop-less c = ?
+loop-less c = search needs
 
--- src/lib.rt:149:5
 loop-again : tie.Need-loop-again Inv-loop μ-loop
-loop-again c = ?
+loop-again c =
+    let loop = c .before .before .before .loop in
+    let a = c .before .before .before .before .args in
+    let on = sum-on (now (a .lens)) (a .n) (loop .i) (omega arith) (omega arith) in
+    let l = c .before .shared-slice-known .given (loop .i) in
+    ⊎-elim (λ w. omega (arith, on, l)) (λ w. omega (arith, on, l)) (c .if1 .came)
 
--- src/lib.rt:142:1
 returns : tie.Need-returns Inv-loop μ-loop
-returns c = ?
+returns c =
+    omega (arith, sum-end (now (c .before .before .args .lens)) (c .before .before .args .n) (c .before .loop .i) (c .loop-test .left), c .before .loop .inv .3)
 
 pub sum-of-spec : {M : Type 1} → statement M
 sum-of-spec =

@@ -1,22 +1,22 @@
+-- `table_reason::told_unread` meets its contract. Assumes nothing.
+use mathlib.Core.Path.{_∙_, ap}
+use Prim.Native.Nat.{ℕ}
 use borrow.Author.Needs.{needs}
+use Rattle.table_reason.specs.Cases.{rowOf}
+use Rattle.table_reason.specs.TableReason.{because, bytes}
 use Rattle.table_reason.proofs.told_unread.Statement.{statement}
 use Rattle.table_reason.proofs.told_unread.Tie as tie
-use Rattle.table_reason.proofs.told_unread.Reads as reads
-use Rattle.table_reason.proofs.told_unread.Lts as lts
-use Rattle.reason.proofs.number_bytes.Reads as number-bytes-reads
-use Rattle.table_reason.proofs.told.Reads as told-reads
 
--- src/lib.rt:181:9
 number-bytes-requires : tie.Need-number-bytes-requires
 number-bytes-requires c κs = search needs
 
--- src/lib.rt:182:5
 told-requires : tie.Need-told-requires
 told-requires c κs = search needs
 
--- src/lib.rt:178:1
 returns : tie.Need-returns
-returns c = ?
+returns c =
+    let a = c .before .before .before .args in
+    c .told .ensures ∙ ap (λ (n : ℕ). because (a .number) (a .place) (rowOf (a .row)) (bytes n)) (c .before .number-bytes .ensures)
 
 pub told-unread-spec : {M : Type 1} → statement M
 told-unread-spec = tie.close (tie.spec number-bytes-requires told-requires returns)
