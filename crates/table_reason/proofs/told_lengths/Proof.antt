@@ -1,42 +1,37 @@
+-- `table_reason::told_lengths` meets its contract: one law for each way out. Assumes nothing.
+use mathlib.Core.Path.{_∙_}
+use Prim.Native.Nat.{_^_, _<_}
+use native.Mathlib.Omega.{arith}
 use borrow.Author.Needs.{needs}
+use Rattle.table_reason.proofs.Telling.{passes, lengths-14, lengths-15, lengths-even}
 use Rattle.table_reason.proofs.told_lengths.Statement.{statement}
 use Rattle.table_reason.proofs.told_lengths.Tie as tie
-use Rattle.table_reason.proofs.told_lengths.Reads as reads
-use Rattle.table_reason.proofs.told_lengths.Lts as lts
-use Rattle.table_reason.proofs.sum_of.Reads as sum-of-reads
-use Rattle.table_reason.proofs.told.Reads as told-reads
 
--- src/lib.rt:190:9
 sum-of-requires : tie.Need-sum-of-requires
 sum-of-requires c κs = search needs
 
--- src/lib.rt:193:9
 told-requires : tie.Need-told-requires
 told-requires c κs = search needs
 
--- src/lib.rt:193:9
 returns : tie.Need-returns
-returns c = ?
+returns c =
+    let f : c .before .before .before .before .before .args .room < 2 ^ 64 = omega arith in
+    c .told .ensures ∙ lengths-14 _ (c .before .before .before .sum-of .ensures) (passes _ _ _ (c .before .if1 .taken) f)
 
--- src/lib.rt:196:9
 told-requires-2 : tie.Need-told-requires-2
 told-requires-2 c κs = search needs
 
--- src/lib.rt:196:9
 returns-2 : tie.Need-returns-2
-returns-2 c = ?
+returns-2 c = c .told2 .ensures ∙ lengths-14 _ (c .before .before .before .before .before .sum-of .ensures) (omega (arith, c .before .if2 .taken))
 
--- src/lib.rt:199:9
 told-requires-3 : tie.Need-told-requires-3
 told-requires-3 c κs = search needs
 
--- src/lib.rt:199:9
 returns-3 : tie.Need-returns-3
-returns-3 c = ?
+returns-3 c = c .told3 .ensures ∙ lengths-15 _ (c .before .before .before .before .before .before .before .sum-of .ensures) (omega (arith, c .before .before .before .before .before .if1 .left, c .before .if3 .taken))
 
--- src/lib.rt:186:1
 returns-4 : tie.Need-returns-4
-returns-4 c = ?
+returns-4 c = lengths-even _ (c .before .before .before .before .before .before .sum-of .ensures) (omega (arith, c .before .before .before .before .if1 .left, c .before .before .if2 .left, c .if3 .left))
 
 pub told-lengths-spec : {M : Type 1} → statement M
 told-lengths-spec =
