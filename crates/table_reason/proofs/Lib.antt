@@ -1,3 +1,4 @@
+pub mod Examples
 pub mod Firsts
 pub mod Reading
 pub mod Telling

@@ -145,24 +145,23 @@ module _ (s specs lens : List ℕ) (next : ℕ) (read : AllRead s specs lens nex
 
     right-uneven : (number : ℕ) → plain specs ≡ true → Uneven number (sum lens) (length s - next)
         → Right s (faulty number 0) (because number 0 nowhere (lengths (sum lens) (length s - next)))
-    right-uneven number f u =
-        (
-          refl,
-          refl,
-          record {
-            place = refl;
-            names = refl;
-            specs = specs;
-            lens = lens;
-            next = next;
-            read = read;
-            order = in-order specs e;
-            plain = not-compressed specs f;
-            total-is = refl;
-            room-is = omega arith;
-            uneven = u;
-          },
-        )
+    right-uneven number f u = (
+      refl,
+      refl,
+      record {
+        place = refl;
+        names = refl;
+        specs = specs;
+        lens = lens;
+        next = next;
+        read = read;
+        order = in-order specs e;
+        plain = not-compressed specs f;
+        total-is = refl;
+        room-is = omega arith;
+        uneven = u;
+      },
+    )
 
   right-rows : Right s (judged (length s) (tab specs lens next)) (judgedReason (length s) specs lens next)
   right-rows =
@@ -185,16 +184,15 @@ module _ (s : List ℕ) where
         many = h .1 ∙ sym (h .0);
       })
       (h .2 (u64-next s 0 n q e .1))
-  right-read n q k (faulty number place) e few f h =
-      (
-        refl,
-        refl,
-        record {
-          number = row-number (h .refused);
-          unread = record { count = n; first = q; counted = e; few = few; unread = h };
-          there = refl;
-        },
-      )
+  right-read n q k (faulty number place) e few f h = (
+    refl,
+    refl,
+    record {
+      number = row-number (h .refused);
+      unread = record { count = n; first = q; counted = e; few = few; unread = h };
+      there = refl;
+    },
+  )
 
   right : Right s (parse s) (tableReason s)
   unfolding parse tableReason

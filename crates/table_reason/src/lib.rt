@@ -210,11 +210,12 @@ fn told_rows(rows: Rows, n: usize, size: usize) -> TableTold
     let lens = rows.lens;
     let i = first_fall(&specs, n);
     if i < n {
+        let before = i - 1;
         return told(
             12,
             0,
             Row::At(i as u64),
-            TableFacts::Falls(specs[i - 1], specs[i]),
+            TableFacts::Falls(specs[before], specs[i]),
         );
     }
     let j = first_compressed(&specs, n);

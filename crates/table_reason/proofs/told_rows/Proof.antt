@@ -15,8 +15,8 @@ first-fall-requires c κs =
     let long : length (c .before .before .before .args .rows .specs) ≡ 64 = search needs in
     omega arith
 
-sub-t13 : tie.Need-sub-t13
-sub-t13 c =
+sub-before : tie.Need-sub-before
+sub-before c =
     let a = c .before .before .before .before .before .args in
     let long : length (a .rows .specs) ≡ 64 = search needs in
     omega (arith, rows-behind (a .n) (a .rows .specs) (omega arith) (c .before .first-fall .ensures) (c .if1 .taken))
@@ -88,7 +88,7 @@ told-rows-spec =
     (tie.spec
     slice-aggregate-first-fall
     first-fall-requires
-    sub-t13
+    sub-before
     mul-t14
     array-read-t17
     mul-t18
