@@ -1,5 +1,5 @@
 -- One law for each way out of the functions that tell a table's reason. Assumes nothing.
-use mathlib.Core.Path.{_≡_, refl, sym, subst, _∙_, ap}
+use mathlib.Core.Path.{_≡_, sym, subst, ap}
 use mathlib.Core.List.{List}
 use mathlib.Core.Bool.{true, false}
 use mathlib.Core.Option.{none}
@@ -10,8 +10,8 @@ use lib.Seq.{length-take-le, getD-take}
 use borrow.Author.Tests.{lt-ltb, le-ltb, eq-eqb, ne-eqb}
 use Rattle.leb128.specs.Got.{got, bad}
 use Rattle.leb128.specs.Read.{u64At}
-use Rattle.raw_column.specs.Table.{Tab, tab, faulty, rowsAt, inOrder, plain, sum}
-use Rattle.table_reason.specs.Rows.{tabOf, WasRead}
+use Rattle.raw_column.specs.Table.{tab, rowsAt, inOrder, plain, sum}
+use Rattle.table_reason.specs.Rows.{WasRead}
 use Rattle.table_reason.specs.TableReason.{
   columns,
   falls,
@@ -33,22 +33,28 @@ use Rattle.table_reason.specs.declared.Rows.{Rows}
 use Rattle.table_reason.proofs.Firsts.{falls-so, falls-not, compressed-so, compressed-not, fall-behind}
 use Rattle.table_reason.proofs.Reading.{RowsEnd, rows-end}
 
--- ---- told_lengths
-pub passes : (high low room : ℕ) → 0 < high → room < 2 ^ 64 → room < high * 2 ^ 64 + low
-passes high low room h r = omega arith
+-- ---- told_lengths, of a sum in two numbers
+module _ (lens : List ℕ) (high low room : ℕ) (e : high * 2 ^ 64 + low ≡ sum lens) where
+  told-14 : room < sum lens → because 14 0 nowhere (lengths (high * 2 ^ 64 + low) room) ≡ lengthsReason lens room
+  told-14 h = rw (e, lt-ltb room (sum lens) h)
 
-module _ (lens : List ℕ) {total room : ℕ} (e : total ≡ sum lens) where
-  pub lengths-14 : room < total → because 14 0 nowhere (lengths total room) ≡ lengthsReason lens room
-  lengths-14 h = rw (← e, lt-ltb room total h)
+  pub lengths-high : 0 < high → room < 2 ^ 64 → because 14 0 nowhere (lengths (high * 2 ^ 64 + low) room) ≡ lengthsReason lens room
+  lengths-high h r = told-14 (omega arith)
 
-  pub lengths-15 : total < room → because 15 0 nowhere (lengths total room) ≡ lengthsReason lens room
-  lengths-15 h = let g : total ≤ room = omega arith in rw (← e, le-ltb room total g, lt-ltb total room h)
+  pub lengths-14 : room < low → because 14 0 nowhere (lengths (high * 2 ^ 64 + low) room) ≡ lengthsReason lens room
+  lengths-14 h = told-14 (omega arith)
 
-  pub lengths-even : total ≡ room → none ≡ lengthsReason lens room
-  lengths-even h =
-      let g : total ≤ room = omega arith in
-      let k : room ≤ total = omega arith in
-      rw (← e, le-ltb room total g, le-ltb total room k)
+  pub lengths-15 : high ≤ 0 → low < room → because 15 0 nowhere (lengths (high * 2 ^ 64 + low) room) ≡ lengthsReason lens room
+  lengths-15 h l =
+      let g : sum lens < room = omega arith in
+      let k : sum lens ≤ room = omega arith in
+      rw (e, le-ltb room (sum lens) k, lt-ltb (sum lens) room g)
+
+  pub lengths-even : high ≤ 0 → low ≤ room → room ≤ low → none ≡ lengthsReason lens room
+  lengths-even h l m =
+      let g : sum lens ≤ room = omega arith in
+      let k : room ≤ sum lens = omega arith in
+      rw (le-ltb room (sum lens) g, le-ltb (sum lens) room k)
 
 -- ---- told_rows
 module _ (n : ℕ) (specs : List ℕ) (h : n ≤ length specs) {i : ℕ} (e : i ≡ firstFall 0 (take n specs)) where

@@ -1,7 +1,7 @@
 -- THE REASON OF A TABLE'S FAULT IS TRUE OF THE BYTES: what it says by its facts (`Says`) holds, and its number and place are the ordinary call's. A faulty table has a reason and a
 -- sound one has none. Assumes nothing.
 use Prim.Native.Nat.{ℕ, zero, suc, _-_, _≤_, _<_}
-use mathlib.Core.Path.{_≡_, refl, sym, subst, _∙_, ap}
+use mathlib.Core.Path.{_≡_, refl, sym, subst, _∙_}
 use mathlib.Core.List.{List}
 use mathlib.Core.Option.{Option, none, some}
 use mathlib.Core.Bool.{Bool, true, false, cond, not}
@@ -15,7 +15,6 @@ use Rattle.leb128.specs.Read.{narrow, u32At, u64At}
 use Rattle.leb128.proofs.Laws.{u64-next}
 use Rattle.leb128.proofs.Refusals.{Begun, u64-begun, u64-none}
 use Rattle.column_specification.specs.Key.{key}
-use Rattle.column_specification.specs.Specification.{compressedOf}
 use Rattle.raw_column.specs.Table.{Tab, tab, faulty, withNumber, rowsAt, inOrder, plain, sum, judged, parse}
 use Rattle.table_reason.specs.TableReason.{
   bytes,
@@ -29,8 +28,8 @@ use Rattle.table_reason.specs.TableReason.{
   rowsRead,
   firstFall,
   firstCompressed,
-  fallen,
-  packed,
+  fallAt,
+  compressedAt,
   judgedReason,
   rowsReason,
   countReason,
@@ -97,7 +96,7 @@ not-compressed : (specs : List ℕ) → plain specs ≡ true → NoneCompressed 
 not-compressed specs e i h = compressed-before specs i (omega (arith, compressed-none specs e))
 
 module _ (s specs lens : List ℕ) (next : ℕ) (read : AllRead s specs lens next) (within : next ≤ length s) where
-  right-12 : (i : ℕ) → FallsAt 0 specs i → ((j : ℕ) → j < i → prior 0 specs j ≤ key (getD specs j 0)) → Right s (faulty 12 0) (fallen specs i)
+  right-12 : (i : ℕ) → FallsAt 0 specs i → ((j : ℕ) → j < i → prior 0 specs j ≤ key (getD specs j 0)) → Right s (faulty 12 0) (fallAt specs i)
   right-12 zero h b = absurd (omega (arith, h .1))
   right-12 (suc k) h b =
       let e : suc k - 1 ≡ k = omega arith in (
@@ -121,7 +120,7 @@ module _ (s specs lens : List ℕ) (next : ℕ) (read : AllRead s specs lens nex
       )
 
   module _ (e : inOrder 0 specs ≡ true) where
-    right-13 : plain specs ≡ false → Right s (faulty 13 0) (packed specs (firstCompressed specs))
+    right-13 : plain specs ≡ false → Right s (faulty 13 0) (compressedAt specs (firstCompressed specs))
     right-13 f =
         let c = compressed-is specs f in (
           refl,

@@ -64,11 +64,11 @@ firstCompressed (spec ∷ specs) = let rest = suc (firstCompressed specs) in con
 abbrev pub unread : List ℕ → ℕ → ℕ → Row → Option TableReason
 unread s number place r = because number place r (bytes (numberBytes 0 (drop place s)))
 
-abbrev pub fallen : List ℕ → ℕ → Option TableReason
-fallen specs i = because 12 0 (row i) (falls (getD specs (i - 1) 0) (getD specs i 0))
+abbrev pub fallAt : List ℕ → ℕ → Option TableReason
+fallAt specs i = because 12 0 (row i) (falls (getD specs (i - 1) 0) (getD specs i 0))
 
-abbrev pub packed : List ℕ → ℕ → Option TableReason
-packed specs i = because 13 0 (row i) (compressed (getD specs i 0))
+abbrev pub compressedAt : List ℕ → ℕ → Option TableReason
+compressedAt specs i = because 13 0 (row i) (compressed (getD specs i 0))
 
 -- 14 and 15, of lengths and so many bytes of data; and a sound table has none
 abbrev pub lengthsReason : List ℕ → ℕ → Option TableReason
@@ -79,8 +79,8 @@ lengthsReason lens room =
 -- 12, 13, 14 and 15, of rows that read, in a block of so many bytes
 abbrev pub judgedReason : ℕ → List ℕ → List ℕ → ℕ → Option TableReason
 judgedReason size specs lens next =
-    cond (not (inOrder 0 specs)) (fallen specs (firstFall 0 specs))
-    (cond (not (plain specs)) (packed specs (firstCompressed specs))
+    cond (not (inOrder 0 specs)) (fallAt specs (firstFall 0 specs))
+    (cond (not (plain specs)) (compressedAt specs (firstCompressed specs))
     (lengthsReason lens (size - next)))
 
 -- behind k rows that read
@@ -92,5 +92,6 @@ abbrev pub countReason : List ℕ → Got ℕ → Option TableReason
 countReason s (got n q) = cond (ltb 64 n) (because 11 0 nowhere (columns n)) (rowsReason s (rowsRead n s q) (rowsAt n s q))
 countReason s (bad number place) = unread s number place nowhere
 
+-- the reason of the fault of a block's table
 unfoldable pub tableReason : List ℕ → Option TableReason
 tableReason s = countReason s (u64At s 0)
