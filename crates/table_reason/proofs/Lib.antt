@@ -1,3 +1,4 @@
+pub mod Bytes
 pub mod Examples
 pub mod Firsts
 pub mod Reading

@@ -5,15 +5,13 @@ use mathlib.Core.Path.{_≡_, refl, sym, subst, _∙_}
 use mathlib.Core.List.{List}
 use mathlib.Core.Option.{Option, none, some}
 use mathlib.Core.Bool.{Bool, true, false, cond, not}
-use native.Mathlib.Decide.{decLt}
 use native.Mathlib.Omega.{arith}
-use lib.Dec.{ltb, leb}
+use lib.Dec.{ltb}
 use lib.ListN.{length, getD}
 use borrow.Author.Tests.{ltb-true, ltb-false, not-true, not-false}
 use Rattle.leb128.specs.Got.{Got, got, bad}
-use Rattle.leb128.specs.Read.{narrow, u32At, u64At}
+use Rattle.leb128.specs.Read.{u64At}
 use Rattle.leb128.proofs.Laws.{u64-next}
-use Rattle.leb128.proofs.Refusals.{Begun, u64-begun, u64-none}
 use Rattle.column_specification.specs.Key.{key}
 use Rattle.raw_column.specs.Table.{Tab, tab, faulty, withNumber, rowsAt, inOrder, plain, sum, judged, parse}
 use Rattle.table_reason.specs.TableReason.{
@@ -36,12 +34,6 @@ use Rattle.table_reason.specs.TableReason.{
   tableReason,
 }
 use Rattle.table_reason.specs.True.{
-  RowBad,
-  bad-spec,
-  bad-len,
-  NumberFault,
-  begun,
-  absent,
   Unread,
   TooMany,
   AllRead,
@@ -55,28 +47,9 @@ use Rattle.table_reason.specs.True.{
   Lengths,
   Says,
 }
+use Rattle.table_reason.proofs.Bytes.{u64-refusal, row-refusal}
 use Rattle.table_reason.proofs.Firsts.{prior, FallsAt, fall-none, fall-is, fall-before, compressed-none, compressed-is, compressed-before}
 use Rattle.table_reason.proofs.Reading.{RowsEnd, rows-end}
-
--- ---- what a number is refused with
-u64-number : (s : List ℕ) (p number place : ℕ) → u64At s p ≡ bad number place → NumberFault number
-u64-number s p number place e = elim (decLt p (length s)) [
-  | yes h ↦ let b = subst Begun e (u64-begun s p h) in begun (b .0) (b .1)
-  | no h ↦ let z : _≡_ {A = Got ℕ} (bad 21 (length s)) (bad number place) = sym (u64-none s p (omega arith)) ∙ e in let q : number ≡ 21 = cc in absent q
-]
-
-narrow-number : (at number place : ℕ) (g : Got ℕ) → ((r p : ℕ) → g ≡ bad r p → NumberFault r) → narrow at g ≡ bad number place → NumberFault number
-narrow-number at number place (got v next) h e = go (leb v 4294967295) e
-  where
-    go : (b : Bool) → _≡_ {A = Got ℕ} (cond b (got v next) (bad 2 at)) (bad number place) → NumberFault number
-    go true e = let z : _≡_ {A = ℕ} 0 1 = cc in absurd (omega arith)
-    go false e = let q : 2 ≡ number = cc in begun (omega arith) (omega arith)
-narrow-number at number place (bad r p) h e = let q : r ≡ number = cc in subst NumberFault q (h r p refl)
-
-row-number : {s : List ℕ} {p number place : ℕ} → RowBad s p number place → NumberFault number
-unfolding u32At
-row-number {s} {p} {number} {place} (bad-spec e) = narrow-number p number place (u64At s p) (u64-number s p) e
-row-number {s} {p} {number} {place} (bad-len {spec} {q} e f) = u64-number s q number place f
 
 -- ---- a table and its reason: both sound, or a refusal and a reason of it that holds
 abbrev Right : List ℕ → Tab → Option TableReason → Type 0
@@ -183,15 +156,17 @@ module _ (s : List ℕ) where
         many = h .1 ∙ sym (h .0);
       })
       (h .2 (u64-next s 0 n q e .1))
-  right-read n q k (faulty number place) e few f h = (
-    refl,
-    refl,
-    record {
-      number = row-number (h .refused);
-      unread = record { count = n; first = q; counted = e; few = few; unread = h };
-      there = refl;
-    },
-  )
+  right-read n q k (faulty number place) e few f h =
+      let b = row-refusal (h .refused) in (
+        refl,
+        refl,
+        record {
+          number = b .numbered;
+          unread = record { count = n; first = q; counted = e; few = few; unread = h };
+          is = refl;
+          there = b .there;
+        },
+      )
 
   right : Right s (parse s) (tableReason s)
   unfolding parse tableReason
@@ -203,7 +178,9 @@ module _ (s : List ℕ) where
           both-by (Right s) (ltb 64 n)
           (λ h. (refl, refl, record { number = refl; place = refl; names = refl; behind = q; counted = e; passes = ltb-true 64 n h }))
           (λ h. right-read n q (rowsRead n s q) (rowsAt n s q) e (ltb-false 64 n h) refl (rows-end s n q))
-      go (bad number place) e = (refl, refl, record { number = u64-number s 0 number place e; unread = e; there = refl })
+      go (bad number place) e =
+          let b = u64-refusal s 0 number place e in
+          (refl, refl, record { number = b .numbered; unread = e; is = refl; there = b .there })
 
   -- ---- the theorems
 

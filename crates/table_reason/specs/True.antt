@@ -48,10 +48,16 @@ pub data NumberFault (number : ℕ) : Type 0 where
   begun : 0 < number → number ≤ 3 → NumberFault number
   absent : number ≡ 21 → NumberFault number
 
+-- of its bytes n are there: for 21 none, at the end; for 1 all up to the end
+pub record BytesThere (s : List ℕ) (number place n : ℕ) : Type 0 where
+  pub none-there : number ≡ 21 → (place ≡ length s) × (n ≡ 0)
+  pub cut-there : number ≡ 1 → (0 < n) × (place + n ≡ length s)
+
 pub record Unread (s : List ℕ) (r : TableReason) (n : ℕ) : Type 0 where
   pub number : NumberFault (r .number)
   pub unread : UnreadAt s (r .number) (r .place) (r .row)
-  pub there : n ≡ numberBytes 0 (drop (r .place) s)
+  pub is : n ≡ numberBytes 0 (drop (r .place) s)
+  pub there : BytesThere s (r .number) (r .place) n
 
 -- ---- 11
 
