@@ -25,17 +25,24 @@ use Rattle.reason.proofs.Broken.{u64-broken, i64-broken}
 
 -- ---- an unreadable number
 
+-- where a number is refused at the place, the facts are the number of its bytes
+abbrev pub Says : {A : Type 0} → (List ℕ → ℕ → Got A) → List ℕ → Reason → Type 0
+Says read s r =
+    read s (r .place) ≡ bad (r .number) (r .place) → Broken s (r .number) (r .place) (numberBytes 0 (drop (r .place) s)) → r .facts ≡ bytes (numberBytes 0 (drop (r .place) s))
+
 unread : {A : Type 0} (read : List ℕ → ℕ → Got A) (s : List ℕ) (r : Reason) (q : ℕ) → (r .place ≡ q) × Broken s (r .number) q (numberBytes 0 (drop q s))
-    → r .facts ≡ bytes (numberBytes 0 (drop (r .place) s)) → read s q ≡ bad (r .number) (r .place) → (r .place ≡ q) × Unread read s r
+    → Says read s r → read s q ≡ bad (r .number) (r .place) → (r .place ≡ q) × Unread read s r
 unread read s r q b f e =
-    (b .0, record { refused = ap (λ (p : ℕ). read s p) (b .0) ∙ e; there = numberBytes 0 (drop (r .place) s); facts = f; broken = rw (b .0) (b .1) })
+    let h : read s (r .place) ≡ bad (r .number) (r .place) = ap (λ (p : ℕ). read s p) (b .0) ∙ e in
+    let k : Broken s (r .number) (r .place) (numberBytes 0 (drop (r .place) s)) = rw (b .0) (b .1) in
+    (b .0, record { refused = h; there = numberBytes 0 (drop (r .place) s); facts = f h k; broken = k })
 
-module _ (s : List ℕ) (r : Reason) (q : ℕ) (l : q ≤ length s) (f : r .facts ≡ bytes (numberBytes 0 (drop (r .place) s))) where
-  pub u64-unread : u64At s q ≡ bad (r .number) (r .place) → (r .place ≡ q) × Unread u64At s r
-  u64-unread e = unread u64At s r q (u64-broken s q (r .number) (r .place) l e) f e
+module _ (s : List ℕ) (r : Reason) (q : ℕ) (l : q ≤ length s) where
+  pub u64-unread : Says u64At s r → u64At s q ≡ bad (r .number) (r .place) → (r .place ≡ q) × Unread u64At s r
+  u64-unread f e = unread u64At s r q (u64-broken s q (r .number) (r .place) l e) f e
 
-  pub i64-unread : i64At s q ≡ bad (r .number) (r .place) → (r .place ≡ q) × Unread i64At s r
-  i64-unread e = unread i64At s r q (i64-broken s q (r .number) (r .place) l e) f e
+  pub i64-unread : Says i64At s r → i64At s q ≡ bad (r .number) (r .place) → (r .place ≡ q) × Unread i64At s r
+  i64-unread f e = unread i64At s r q (i64-broken s q (r .number) (r .place) l e) f e
 
 -- ---- an unreadable value among literal ones
 
@@ -68,8 +75,7 @@ module _ {A : Type 0} (E : Element A) (L : ElementLaws E) (s : List ℕ) (number
 
 module _ {A : Type 0} (E : Element A) (L : ElementLaws E) (s : List ℕ) (Value : Reason → Type 0) (st : Spot) (r : Reason) (within-limit : st .had ≤ limit)
     (five : r .number ≡ 5 → r .facts ≡ passes (st .had) (asked s (i64At s (st .at))))
-    (first-bytes : i64At s (st .at) ≡ bad (r .number) (r .place) → r .facts ≡ bytes (numberBytes 0 (drop (r .place) s)))
-    (second-bytes : (q : ℕ) → u64At s q ≡ bad (r .number) (r .place) → r .facts ≡ bytes (numberBytes 0 (drop (r .place) s)))
+    (signed-says : Says i64At s r) (unsigned-says : Says u64At s r)
     (value-fault : (q : ℕ) → q ≤ length s → E .read s q ≡ bad (r .number) (r .place) → (r .place ≡ q) × Value r) where
   abbrev Told : Run (Reading A) Spot → Type 0
   Told x = x .next ≡ off (r .number) (r .place) → RunFault E s Value (length (x .readings)) st r
@@ -83,9 +89,9 @@ module _ {A : Type 0} (E : Element A) (L : ElementLaws E) (s : List ℕ) (Value 
   judged-told c p h a e k =
       cond-by ToldHead (leb (st .had + c) limit) (λ t. k)
       (λ t o.
-        let m : 5 ≡ r .number = cc in
-        let j : p ≡ r .place = cc in
-        RunFault.many (sym m) (five (sym m) ∙ ap (passes (st .had)) e) (rw j at a) within-limit (leb-false (st .had + c) limit t))
+      let m : 5 ≡ r .number = cc in
+      let j : p ≡ r .place = cc in
+      RunFault.many (sym m) (five (sym m) ∙ ap (passes (st .had)) e) (rw j at a) within-limit (leb-false (st .had + c) limit t))
 
   repeat-told : (c q : ℕ) → 0 < c → q ≤ length s → i64At s (st .at) ≡ got (pos c) q → (g : Got A) → E .read s q ≡ g → Told (repeated (st .had) c q g)
   unfolding repeated
@@ -110,7 +116,7 @@ module _ {A : Type 0} (E : Element A) (L : ElementLaws E) (s : List ℕ) (Value 
       let i : m ≡ r .number = cc in
       let j : p ≡ r .place = cc in
       let b : u64At s q ≡ bad (r .number) (r .place) = h ∙ rw (i, j) refl in
-      let u = u64-unread s r q l (second-bytes q b) b in
+      let u = u64-unread s r q l unsigned-says b in
       RunFault.second (e ∙ ap (got (pos 0)) (sym (u .0))) (u .1)
 
   begun-told : st .at ≤ length s → (g : Got ℤ) → i64At s (st .at) ≡ g → ToldHead (begun s (st .at) (st .had) g)
@@ -120,18 +126,18 @@ module _ {A : Type 0} (E : Element A) (L : ElementLaws E) (s : List ℕ) (Value 
       let i : m ≡ r .number = cc in
       let j : p ≡ r .place = cc in
       let b : i64At s (st .at) ≡ bad (r .number) (r .place) = e ∙ rw (i, j) refl in
-      let u = i64-unread s r (st .at) l (first-bytes b) b in
+      let u = i64-unread s r (st .at) l signed-says b in
       RunFault.first (u .0) (u .1)
   begun-told l (got (pos c) q) e =
       let n = i64-next s (st .at) q (pos c) e .1 in
       cond-by ToldHead (eqb c 0)
       (λ t.
-        let z : c ≡ 0 = eqb-true c 0 t in
-        absent-told q n (e ∙ ap (λ (c : ℕ). got (pos c) q) z) (u64At s q) refl (ap (asked s) e ∙ ap (λ (t : Bool). cond t (second (u64At s q)) c) t))
+      let z : c ≡ 0 = eqb-true c 0 t in
+      absent-told q n (e ∙ ap (λ (c : ℕ). got (pos c) q) z) (u64At s q) refl (ap (asked s) e ∙ ap (λ (t : Bool). cond t (second (u64At s q)) c) t))
       (λ t.
-        let z : c ≡ 0 → ⊥ = eqb-false c 0 t in
-        judged-told c (st .at) (Head.repeat c q) (Asks.repeats refl e (omega arith)) (ap (asked s) e ∙ ap (λ (t : Bool). cond t (second (u64At s q)) c) t)
-        (repeat-told c q (omega arith) n e (E .read s q) refl))
+      let z : c ≡ 0 → ⊥ = eqb-false c 0 t in
+      judged-told c (st .at) (Head.repeat c q) (Asks.repeats refl e (omega arith)) (ap (asked s) e ∙ ap (λ (t : Bool). cond t (second (u64At s q)) c) t)
+      (repeat-told c q (omega arith) n e (E .read s q) refl))
 
   pub run-fault : Told (runAt E s st)
   unfolding runAt headAt
