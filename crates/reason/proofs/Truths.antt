@@ -6,22 +6,27 @@ use mathlib.Core.Path.{_≡_, refl, sym, _∙_, ap}
 use mathlib.Core.List.{List}
 use mathlib.Core.Option.{Option, none, some}
 use native.Mathlib.Omega.{arith}
+use mathlib.Core.Bool.{true}
+use lib.Dec.{ltb, leb}
 use lib.ListN.{length, drop}
-use borrow.Author.Tests.{eq-eqb, ne-eqb}
-use Rattle.leb128.specs.Got.{bad}
+use borrow.Author.Tests.{eq-eqb, ne-eqb, ltb-true, leb-false}
+use Rattle.leb128.specs.Got.{Got, got, bad}
 use Rattle.leb128.specs.Read.{u64At, i64At}
 use Rattle.encoding.specs.Column.{Spot, spot, runAt, traceFrom, trace}
 use Rattle.encoding.specs.Element.{Element}
 use Rattle.encoding.specs.Limit.{limit}
-use Rattle.encoding.specs.Walk.{Ending, sound, fault, Trace, walk}
+use Rattle.encoding.specs.Walk.{Ending, sound, fault, Trace, Run, off, walk}
 use Rattle.encoding.proofs.Columns.{columns}
 use Rattle.encoding.proofs.Elements.{ElementLaws}
+use Rattle.encoding.proofs.Lists.{cond-by}
 use Rattle.encoding.proofs.Walking.{Machine}
 use Rattle.rle_decoder.specs.Word.{u64E}
 use Rattle.rle_decoder.proofs.WordLaws.{u64-laws}
-use Rattle.reason.specs.Reason.{Facts, bytes, Count, Reason, numberBytes, signedCount, holding, told, reasonBy, spotsOf, plainFacts, integerReason}
+use Rattle.boolean_decoder.specs.Turns.{Turn, turn, counted, turnAt, turnsFrom, boolTrace}
+use Rattle.boolean_decoder.proofs.Turning.{turns}
+use Rattle.reason.specs.Reason.{Facts, bytes, Count, Reason, numberBytes, signedCount, holding, told, reasonBy, spotsOf, plainFacts, turnFacts, second, passes, unsignedCount, integerReason, booleanReason}
 use Rattle.reason.specs.Runs.{runs}
-use Rattle.reason.specs.True.{True, Falls, Broken, Unread, ColumnTrue, ColumnFalls, IntegerTrue}
+use Rattle.reason.specs.True.{True, Falls, Broken, Unread, ColumnTrue, ColumnFalls, IntegerTrue, TurnFault, BooleanTrue}
 use Rattle.reason.proofs.Named.{passed-had, passed-capped, Names, Faulty, faulty}
 use Rattle.reason.proofs.RunFaults.{Says, u64-unread, run-fault}
 
@@ -59,6 +64,14 @@ module _ {Q R S : Type 0} (M : Machine R S) (t : Trace Q) (f : ℕ) (start : S) 
         },
       )
 
+-- the run at fault, where a column is walked from its first byte on
+fault-named : {R S : Type 0} (M : Machine R S) (f : ℕ) (start : S) → M .had start ≡ 0 → (number place n g : ℕ) → g ≡ f → walk (M .run) g start .ending ≡ fault number place
+    → n ≡ length (walk (M .run) g start .readings) → Names M (Faulty M n number place) n 0 start (runs (M .run) f start)
+fault-named M f start h number place n g k e m =
+    let w = ap (λ (g : ℕ). walk (M .run) g start) k in
+    let c = ap (λ t. length (t .readings)) w in
+    faulty M n number place f 0 start (sym (ap (λ t. t .ending) w) ∙ e) (omega (arith, h, c, m))
+
 -- ---- a run-length column, over the element
 
 -- no number is refused with 5 or 6
@@ -69,16 +82,11 @@ unlike (Broken.whole (inl e) f g h i j) m l o k = omega arith
 unlike (Broken.whole (inr e) f g h i j) m l o k = omega arith
 
 module _ {A : Type 0} (E : Element A) (L : ElementLaws E) (s : List ℕ) where
-  column-walk : trace E s ≡ walk (runAt E s) (length s) (spot 0 0)
-  unfolding trace traceFrom
-  column-walk = let k : length s - 0 ≡ length s = omega arith in ap (λ (f : ℕ). walk (runAt E s) f (spot 0 0)) k
-
   -- the run at fault is named
   pub column-named : (number place n : ℕ) → trace E s .ending ≡ fault number place → n ≡ length (trace E s .readings)
       → Names (columns E L s) (Faulty (columns E L s) n number place) n 0 (spot 0 0) (spotsOf E s)
-  column-named number place n e m =
-      faulty (columns E L s) n number place (length s) 0 (spot 0 0) (sym (ap (λ t. t .ending) column-walk) ∙ e)
-      (let k = ap (λ t. length (t .readings)) column-walk in omega (arith, k, m))
+  unfolding trace traceFrom
+  column-named number place n = fault-named (columns E L s) (length s) (spot 0 0) refl number place n (length s - 0) (omega arith)
 
   -- and what is at fault in it, where the facts are plain
   pub plain-falls : (Value : Reason → Type 0) (r : Reason) (st : Spot) → r .facts ≡ plainFacts s (r .number) (r .place) st
@@ -107,6 +115,49 @@ module _ (s : List ℕ) where
       (ColumnFalls u64E s (Unread u64At s)) number place n (Faulty M n number place) (column-named u64E u64-laws s number place n e refl) e refl
       (λ k st y l. plain-falls u64E u64-laws s (Unread u64At s) _ st refl (λ q h f. u64-unread s _ q h f) y l) in
       (t .0, by-fault (trace u64E s .ending) _ number place e ∙ t .1, t .2)
+
+  -- a boolean column
+  turn-fault : (r : Reason) (st : Turn) → r .facts ≡ turnFacts s (r .number) (r .place) st → Faulty (turns s) (r .index) (r .number) (r .place) st → st .had ≤ limit
+      → Falls (turnAt s) (λ st. st .had) (λ k. TurnFault s) st r
+  unfolding turnAt counted
+  turn-fault r st f y l = record { falls = y .0; index = y .1; fault = cond-by Told (ltb (st .at) (length s)) begun (λ t o. let z : _≡_ {A = ℕ} 0 1 = cc in absurd (omega arith)) (y .0) }
+    where
+      Told : Run ℕ Turn → Type 0
+      Told x = x .next ≡ off (r .number) (r .place) → TurnFault s st r
+
+      five : r .number ≡ 5 → r .facts ≡ passes (st .had) (second (u64At s (st .at)))
+      five e = f ∙ rw (eq-eqb (r .number) 5 e) refl
+
+      says : Says u64At s r
+      says e b = f ∙ rw (ne-eqb (r .number) 5 (unlike b 5 (omega arith) (omega arith))) refl
+
+      counts : st .at ≤ length s → (g : Got ℕ) → u64At s (st .at) ≡ g → Told (counted st g)
+      counts h (got c q) e =
+          cond-by Told (leb (st .had + c) limit) (λ t o. let z : _≡_ {A = ℕ} 0 1 = cc in absurd (omega arith))
+          (λ t o.
+          let m : 5 ≡ r .number = cc in
+          let p : st .at ≡ r .place = cc in
+          TurnFault.many (sym m) (five (sym m) ∙ ap (λ (g : Got ℕ). passes (st .had) (second g)) e) (sym p) e l (leb-false (st .had + c) limit t))
+      counts h (bad m p) e = λ o.
+          let i : m ≡ r .number = cc in
+          let j : p ≡ r .place = cc in
+          let b : u64At s (st .at) ≡ bad (r .number) (r .place) = e ∙ rw (i, j) refl in
+          let u = u64-unread s r (st .at) h says b in
+          TurnFault.first (u .0) (u .1)
+
+      begun : ltb (st .at) (length s) ≡ true → Told (counted st (u64At s (st .at)))
+      begun t = let h = ltb-true (st .at) (length s) t in counts (omega arith) (u64At s (st .at)) refl
+
+  pub boolean-true : (number place : ℕ) → boolTrace s .ending ≡ fault number place → (r : Reason) × (booleanReason s ≡ some r) × BooleanTrue s r
+  unfolding booleanReason boolTrace turnsFrom
+  boolean-true number place e =
+      let n = length (boolTrace s .readings) in
+      let M = turns s in
+      let t =
+      named-true M (boolTrace s) (length s) (turn 0 0 0) refl (λ st. st .at) (λ p. unsignedCount (u64At s p)) (turnFacts s number place)
+      (Falls (turnAt s) (λ st. st .had) (λ k. TurnFault s)) number place n (Faulty M n number place)
+      (fault-named M (length s) (turn 0 0 0) refl number place n (length s - 0) (omega arith) e refl) e refl (λ k st y l. turn-fault _ st refl y l) in
+      (t .0, by-fault (boolTrace s .ending) _ number place e ∙ t .1, t .2)
 
   -- a sound column has none
   pub integer-sound : trace u64E s .ending ≡ sound → integerReason s ≡ none

@@ -138,12 +138,12 @@ abbrev pub DeltaTrue : List ℕ → Reason → Type 0
 DeltaTrue s = ColumnTrue i64E s (deltaTrace s) (λ st r. ColumnFalls i64E s (Unread i64At s) st r ⊎ Leaves s st r)
 
 -- a run of a boolean column is one count
-pub data TurnFault (s : List ℕ) (k : ℕ) (st : Turn) (r : Reason) : Type 0 where
-  first : r .place ≡ st .at → Unread u64At s r → TurnFault s k st r
+pub data TurnFault (s : List ℕ) (st : Turn) (r : Reason) : Type 0 where
+  first : r .place ≡ st .at → Unread u64At s r → TurnFault s st r
   many : {c q : ℕ} → r .number ≡ 5 → r .facts ≡ passes (st .had) c → r .place ≡ st .at → u64At s (st .at) ≡ got c q → st .had ≤ limit → limit < st .had + c
-      → TurnFault s k st r
+      → TurnFault s st r
 
 abbrev pub BooleanTrue : List ℕ → Reason → Type 0
 BooleanTrue s =
     True (boolTrace s) (turnAt s) (turn 0 0 0) (λ st. st .at) (λ st. st .had) (λ p. unsignedCount (u64At s p))
-    (Falls (turnAt s) (λ st. st .had) (TurnFault s))
+    (Falls (turnAt s) (λ st. st .had) (λ k. TurnFault s))
