@@ -1,0 +1,118 @@
+-- THE REASON OF A TEXT COLUMN IS TRUE. A value is refused as its length number is, where bytes of the name are missing, or where they are not UTF-8. Assumes nothing.
+use Prim.Native.Nat.{ℕ, _+_, _-_, _≤_, min}
+use mathlib.Core.Logic.{_⊎_, inl, inr}
+use mathlib.Core.Path.{_≡_, refl, sym, _∙_, ap}
+use mathlib.Core.List.{List}
+use mathlib.Core.Option.{none, some}
+use mathlib.Core.Bool.{Bool, true, false, cond}
+use native.Mathlib.Omega.{arith}
+use lib.Dec.{leb}
+use lib.IntN.{ℤ}
+use lib.ListN.{length, drop}
+use borrow.Author.Tests.{leb-true, leb-false, eq-eqb, ne-eqb}
+use Rattle.leb128.specs.Digits.{Digits, whole, broken, digits}
+use Rattle.leb128.specs.Got.{Got, got, bad}
+use Rattle.leb128.specs.Read.{signedOf, sLarge, sLong, unsigned, signed, u64At, i64At}
+use Rattle.leb128.proofs.Laws.{u64-next}
+use Rattle.encoding.specs.Column.{Spot, spot, trace}
+use Rattle.encoding.specs.Limit.{limit}
+use Rattle.encoding.specs.Walk.{sound, fault}
+use Rattle.encoding.proofs.Columns.{columns}
+use Rattle.utf8.specs.Utf8.{isUtf8}
+use Rattle.text.specs.Text.{bytesAt, valued, textAt, textE}
+use Rattle.text.proofs.TextLaws.{text-laws}
+use Rattle.reason.specs.Reason.{name, Reason, signedCount, named, nameFacts, textReason}
+use Rattle.reason.specs.True.{Broken, NameFault, ColumnFalls, TextTrue}
+use Rattle.reason.proofs.Named.{Faulty}
+use Rattle.reason.proofs.RunFaults.{Says, u64-unread, run-fault}
+use Rattle.reason.proofs.Truths.{by-fault, named-true, unlike, column-named}
+
+-- bytes that end, within a number or before it, are refused alike by both readers
+both-end : (s : List ℕ) (p number place : ℕ) → (number ≡ 2 → ⊥) → (number ≡ 3 → ⊥) → i64At s p ≡ bad number place → u64At s p ≡ bad number place
+unfolding u64At i64At
+both-end s p number place a b = go (digits 0 0 (drop p s))
+  where
+    judged : (m at : ℕ) (x : ℤ) (t u : Bool) → cond t (bad 2 m) (cond u (bad 3 m) (got x at)) ≡ bad number place → ⊥
+    judged m at x true u e = let z : 2 ≡ number = cc in a (sym z)
+    judged m at x false true e = let z : 3 ≡ number = cc in b (sym z)
+    judged m at x false false e = let z : _≡_ {A = ℕ} 0 1 = cc in omega arith
+
+    go : (c : Digits) → signed p (min p (length s)) c ≡ bad number place → unsigned p (min p (length s)) c ≡ bad number place
+    go (whole low scale prev last count) e = absurd (judged (min p (length s)) (p + count) (signedOf low scale last) (sLarge last count) (sLong prev last count) e)
+    go (broken r) e = cc
+
+-- ---- a value
+
+module _ (s : List ℕ) (r : Reason) (unsigned-says : Says u64At s r) (by-name : (r .number ≡ 1) ⊎ (r .number ≡ 20) → r .facts ≡ named s (r .place) (u64At s (r .place))) where
+  -- behind a length number that reads
+  name-there : (q n z : ℕ) → r .place ≡ q → u64At s q ≡ got n z → (r .number ≡ 1) ⊎ (r .number ≡ 20) → (u64At s (r .place) ≡ got n z) × (r .facts ≡ name n (length s - z))
+  name-there q n z p e w = let h : u64At s (r .place) ≡ got n z = ap (u64At s) p ∙ e in (h, by-name w ∙ ap (named s (r .place)) h)
+
+  pub name-fault : (q : ℕ) → q ≤ length s → textE .read s q ≡ bad (r .number) (r .place) → (r .place ≡ q) × NameFault s r
+  unfolding textAt
+  name-fault q l = go (u64At s q) refl
+    where
+      judged : (n z : ℕ) → u64At s q ≡ got n z → (t u : Bool) → leb (z + n) (length s) ≡ t → isUtf8 (bytesAt s z n) ≡ u
+          → cond t (cond u (got (bytesAt s z n) (z + n)) (bad 20 q)) (bad 1 q) ≡ bad (r .number) (r .place) → (r .place ≡ q) × NameFault s r
+      judged n z e true true f g h = let y : _≡_ {A = ℕ} 0 1 = cc in absurd (omega arith)
+      judged n z e true false f g h =
+          let m : r .number ≡ 20 = cc in
+          let p : r .place ≡ q = cc in
+          let y = name-there q n z p e (inr m) in
+          let b = u64-next s q n z e in
+          (p, NameFault.characters m (y .1) (y .0) (omega (arith, b .1)) (omega (arith, b .1, leb-true (z + n) (length s) f)) g)
+      judged n z e false u f g h =
+          let m : r .number ≡ 1 = cc in
+          let p : r .place ≡ q = cc in
+          let y = name-there q n z p e (inl m) in
+          let b = u64-next s q n z e in
+          (p, NameFault.cut m (y .1) (y .0) (omega (arith, b .1)) (omega (arith, b .1, leb-false (z + n) (length s) f)))
+
+      go : (g : Got ℕ) → u64At s q ≡ g → valued s q g ≡ bad (r .number) (r .place) → (r .place ≡ q) × NameFault s r
+      go (got n z) e h = judged n z e (leb (z + n) (length s)) (isUtf8 (bytesAt s z n)) refl refl h
+      go (bad m k) e h =
+          let i : m ≡ r .number = cc in
+          let j : k ≡ r .place = cc in
+          let u = u64-unread s r q l unsigned-says (e ∙ rw (i, j) refl) in
+          (u .0, NameFault.number (u .1))
+
+-- ---- a text column
+
+module _ (s : List ℕ) where
+  -- facts that are those of the name, for every number but 5
+  module _ (r : Reason) (st : Spot) (f : r .facts ≡ nameFacts s (r .number) (r .place) st) where
+    by-name : (r .number ≡ 5 → ⊥) → r .facts ≡ named s (r .place) (u64At s (r .place))
+    by-name h = f ∙ rw (ne-eqb (r .number) 5 h) refl
+
+    says : Says u64At s r
+    says e b = by-name (unlike b 5 (omega arith) (omega arith)) ∙ ap (named s (r .place)) e
+
+    name-falls : (r .number ≡ 2 → ⊥) → (r .number ≡ 3 → ⊥) → Faulty (columns textE text-laws s) (r .index) (r .number) (r .place) st → st .had ≤ limit
+        → ColumnFalls textE s (NameFault s) st r
+    name-falls a b y l =
+        record {
+          falls = y .0;
+          index = y .1;
+          fault =
+              run-fault textE text-laws s (NameFault s) st r l (λ e. f ∙ rw (eq-eqb (r .number) 5 e) refl) (λ e. says (both-end s (r .place) (r .number) (r .place) a b e)) says
+              (name-fault s r says (λ w. by-name (not-five w))) (y .0);
+        }
+      where
+        not-five : (r .number ≡ 1) ⊎ (r .number ≡ 20) → r .number ≡ 5 → ⊥
+        not-five (inl e) g = omega arith
+        not-five (inr e) g = omega arith
+
+  pub text-true : (number place : ℕ) → (number ≡ 2 → ⊥) → (number ≡ 3 → ⊥) → trace textE s .ending ≡ fault number place → (r : Reason) × (textReason s ≡ some r) × TextTrue s r
+  unfolding textReason
+  text-true number place a b e =
+      let n = length (trace textE s .readings) in
+      let M = columns textE text-laws s in
+      let t =
+      named-true M (trace textE s) (length s) (spot 0 0) refl (λ st. st .at) (λ p. signedCount (i64At s p)) (nameFacts s number place)
+      (ColumnFalls textE s (NameFault s)) number place n (Faulty M n number place) (column-named textE text-laws s number place n e refl) e refl
+      (λ k st y l. name-falls _ st refl a b y l) in
+      (t .0, by-fault (trace textE s .ending) _ number place e ∙ t .1, t .2)
+
+  pub text-sound : trace textE s .ending ≡ sound → textReason s ≡ none
+  unfolding textReason
+  text-sound e = rw e refl
