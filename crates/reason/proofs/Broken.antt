@@ -2,18 +2,17 @@
 -- both readers, which refuse with the position as the place. Assumes nothing.
 use Prim.Native.Nat.{ℕ, zero, suc, _+_, _*_, _-_, _≤_, _<_, min}
 use mathlib.Core.Logic.{_⊎_, inl, inr}
-use mathlib.Core.Path.{_≡_, refl, sym, _∙_, ap, subst}
+use mathlib.Core.Path.{_≡_, refl, sym, _∙_, ap}
 use mathlib.Core.List.{List, [], _∷_}
 use mathlib.Core.Bool.{Bool, true, false, cond}
 use native.Mathlib.Numerals.{add-one}
 use native.Mathlib.Decide.{decLt}
 use native.Mathlib.Omega.{arith}
 use lib.Dec.{ltb, eqb}
-use lib.IntN.{ℤ}
 use lib.ListN.{length, getD, drop, length-drop}
 use lib.Seq.{getD-drop}
 use borrow.Author.Tests.{ltb-true, ltb-false, eqb-true, eqb-false, eq-eqb, ne-eqb}
-use Rattle.leb128.specs.Got.{Got, got, bad}
+use Rattle.leb128.specs.Got.{got, bad}
 use Rattle.leb128.specs.Digits.{Digits, whole, broken, more, ended, digits}
 use Rattle.leb128.specs.Read.{uLarge, uLong, unsigned, sLarge, sLong, signedOf, signed, u64At, i64At}
 use Rattle.reason.specs.Reason.{numberBytes}

@@ -3,17 +3,15 @@ use Prim.Native.Nat.{ℕ, zero, suc, _+_, _-_, _≤_, _<_}
 use mathlib.Core.Path.{_≡_, refl, sym, _∙_, ap}
 use mathlib.Core.List.{List, [], _∷_, _++_}
 use mathlib.Core.Option.{Option, some}
-use mathlib.Core.Bool.{cond}
 use native.Mathlib.Decide.{decLt}
 use native.Mathlib.Omega.{arith}
-use lib.Dec.{ltb}
 use lib.ListN.{length, getD, length-append, List·getD-append}
 use lib.Seq.{getD-append-add}
 use borrow.Author.Tests.{lt-ltb, le-ltb}
 use Rattle.encoding.specs.Limit.{limit}
 use Rattle.encoding.specs.Walk.{Next, over, on, off, Trace, sound, fault, walk, after}
 use Rattle.encoding.proofs.Walking.{Machine}
-use Rattle.reason.specs.Reason.{endsHere, holding}
+use Rattle.reason.specs.Reason.{holding}
 use Rattle.reason.specs.Runs.{Walked, walked, later, runs, Fallen}
 use Rattle.reason.specs.True.{Passed}
 

@@ -1,6 +1,6 @@
 -- The loop of `number_bytes`. Behind n bytes of a number all there are, x, are n and those from i on. A turn keeps that (`next`), and each way out reads the result off it
 -- (`final`, `tenth`, `none`). Assumes nothing.
-use Prim.Native.Nat.{ℕ, suc, _+_, _≤_, _<_}
+use Prim.Native.Nat.{ℕ, _+_, _≤_, _<_}
 use mathlib.Core.Path.{_≡_, refl, sym, _∙_}
 use mathlib.Core.List.{List}
 use native.Mathlib.Numerals.{add-one}

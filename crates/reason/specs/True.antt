@@ -4,12 +4,14 @@ use Prim.Native.Nat.{ℕ, suc, _+_, _≤_, _<_}
 use mathlib.Core.Logic.{_⊎_}
 use mathlib.Core.Path.{_≡_}
 use mathlib.Core.List.{List, [], _++_}
+use mathlib.Core.Option.{Option, some}
+use mathlib.Core.Option as option
 use mathlib.Core.Bool.{true, false}
 use lib.IntN.{ℤ, pos, negsuc, _+ℤ_}
 use lib.ListN.{length, getD}
 use Rattle.leb128.specs.Got.{Got, got, bad}
 use Rattle.leb128.specs.Read.{u64At, i64At}
-use Rattle.encoding.specs.Column.{Reading, absent, present, Spot, spot, runAt, trace}
+use Rattle.encoding.specs.Column.{absent, present, Spot, spot, runAt, trace}
 use Rattle.encoding.specs.Element.{Element}
 use Rattle.encoding.specs.Limit.{limit}
 use Rattle.encoding.specs.Walk.{Run, on, off, Trace}
@@ -21,6 +23,12 @@ use Rattle.boolean_decoder.specs.Turns.{Turn, turn, turnAt, boolTrace}
 use Rattle.utf8.specs.Utf8.{isUtf8}
 use Rattle.text.specs.Text.{bytesAt, textE}
 use Rattle.reason.specs.Reason.{Count, bytes, name, passes, sum, Reason, signedCount, unsignedCount, lastSum}
+
+-- THE REASONS OF A COLUMN that reads as t: each that is given is true, as `Is` says; a fault has one, and a sound column has none
+pub record Explained {Q : Type 0} (t : Trace Q) (given : Option Reason) (Is : Reason → Type 0) : Type 0 where
+  pub each : (r : Reason) → given ≡ some r → Is r
+  pub faulty : (number place : ℕ) → t .ending ≡ walk.fault number place → (r : Reason) × (given ≡ some r) × Is r
+  pub sound : t .ending ≡ walk.sound → given ≡ option.none
 
 -- ---- which run
 
@@ -113,8 +121,9 @@ pub data NameFault (s : List ℕ) (r : Reason) : Type 0 where
   characters : {n q m : ℕ} → r .number ≡ 20 → r .facts ≡ name n m → u64At s (r .place) ≡ got n q → q + m ≡ length s → n ≤ m → isUtf8 (bytesAt s q n) ≡ false
       → NameFault s r
 
+-- where the fault is 2 or 3, only the run is said
 abbrev pub TextTrue : List ℕ → Reason → Type 0
-TextTrue s = ColumnTrue textE s (trace textE s) (ColumnFalls textE s (NameFault s))
+TextTrue s = ColumnTrue textE s (trace textE s) (λ st r. (r .number ≡ 2 → ⊥) → (r .number ≡ 3 → ⊥) → ColumnFalls textE s (NameFault s) st r)
 
 -- "for 6, the sum before and the delta": the run at a state holds the delta at the place, at the index named; the last sum before it and the delta are held by an i64 each (where
 -- the column's bytes are bytes), and together they are not

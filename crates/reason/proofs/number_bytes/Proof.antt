@@ -1,5 +1,5 @@
 -- `reason::number_bytes` meets its contract: the invariant of `NumberBytes.antt`. Assumes nothing.
-use mathlib.Core.Path.{_≡_, refl}
+use mathlib.Core.Path.{_≡_}
 use Prim.Native.Nat.{_+_, _-_, _≤_}
 use native.Mathlib.Omega.{arith}
 use lib.ListN.{length, drop}

@@ -1,6 +1,6 @@
--- THE REASONS OF A DELTA COLUMN. THE FACTS OF 6 ARE TRUE: the run named holds the delta at the place, which is the one named, the sum of all before it is the one named, and the two
--- together leave i64. Any other fault is that of the differences, and its reason names the run at fault. Assumes nothing.
-use Prim.Native.Nat.{ℕ, suc, _+_, _-_, _≤_, _<_}
+-- THE REASON OF A DELTA COLUMN IS TRUE. For 6 the run named holds the delta at the place, at the index named, and the sum before it and the delta leave i64 together; any other fault
+-- is that of the differences. Assumes nothing.
+use Prim.Native.Nat.{ℕ, suc, _-_, _≤_, _<_}
 use mathlib.Core.Logic.{_⊎_, inl, inr}
 use mathlib.Core.Path.{_≡_, refl, sym, _∙_, ap}
 use mathlib.Core.List.{List, [], _∷_}
@@ -15,18 +15,17 @@ use Rattle.leb128.specs.Read.{i64At}
 use Rattle.leb128.proofs.Laws.{i64-only}
 use Rattle.encoding.specs.Column.{Reading, absent, present, Spot, spot, runAt, traceFrom, trace}
 use Rattle.encoding.specs.Limit.{limit}
-use Rattle.encoding.specs.Walk.{Ending, sound, fault, Trace, walk}
+use Rattle.encoding.specs.Walk.{Ending, fault, Trace, walk}
 use Rattle.encoding.proofs.Columns.{columns}
-use Rattle.encoding.proofs.Walking.{next-eq}
 use Rattle.text.proofs.Placed.{Each, trace-each}
 use Rattle.delta_decoder.specs.Difference.{i64E, holds}
 use Rattle.delta_decoder.proofs.DifferenceLaws.{i64-laws}
 use Rattle.delta_decoder.specs.Sums.{heldSum, front, added, addUp, deltaTrace}
-use Rattle.reason.specs.Reason.{sum, Reason, signedCount, lastSum, delta, plainFacts, spotsOf, sumFacts, deltaReason}
-use Rattle.reason.specs.True.{Unread, RunFault, ColumnFalls, Leaves, DeltaTrue}
+use Rattle.reason.specs.Reason.{sum, Reason, signedCount, holding, told, lastSum, delta, plainFacts, spotsOf, sumFacts, deltaReason}
+use Rattle.reason.specs.True.{Explained, Unread, RunFault, ColumnFalls, Leaves, DeltaTrue}
 use Rattle.reason.proofs.Named.{Names, Faulty, Having, having}
 use Rattle.reason.proofs.RunFaults.{i64-unread}
-use Rattle.reason.proofs.Truths.{by-fault, named-true, unlike, column-named, plain-falls}
+use Rattle.reason.proofs.Truths.{explained, unlike, column-named, column-true, plain-falls}
 
 -- what is read at a place
 abbrev ReadAt : List ℕ → ℤ → ℕ → Type 0
@@ -94,11 +93,8 @@ module _ (s : List ℕ) where
                 },
               )
 
-  differences : List (Reading ℤ)
-  differences = trace i64E s .readings
-
-  summing : Summed s (pos 0) differences (trace i64E s .ending) (deltaTrace s)
-  unfolding deltaTrace differences
+  summing : Summed s (pos 0) (trace i64E s .readings) (trace i64E s .ending) (deltaTrace s)
+  unfolding deltaTrace
   summing = added-up (pos 0) (trace i64E s .readings) (trace i64E s .ending) refl (trace-each (ReadAt s) i64E s (λ p q a f. (q, f)))
 
   -- no difference is refused with 6 itself
@@ -116,14 +112,11 @@ module _ (s : List ℕ) where
   never-six : (place : ℕ) → trace i64E s .ending ≡ fault 6 place → ⊥
   never-six place e =
       let M = columns i64E i64-laws s in
-      let n = length (trace i64E s .readings) in
       let t =
-      named-true M (trace i64E s) (length s) (spot 0 0) refl (λ st. st .at) (λ p. signedCount (i64At s p)) (plainFacts s 6 place)
-      (ColumnFalls i64E s (Unread i64At s)) 6 place n (Faulty M n 6 place) (column-named i64E i64-laws s 6 place n e refl) e refl
-      (λ k st y l. difference-falls _ st refl y l) in
-      let y = t .2 .why in
+      column-true i64E i64-laws s (trace i64E s) (plainFacts s 6 place) 6 place (Faulty M (length (trace i64E s .readings)) 6 place) (ColumnFalls i64E s (Unread i64At s))
+      (column-named i64E i64-laws s 6 place (length (trace i64E s .readings)) e refl) e (λ k st. difference-falls _ st refl) in
       let q : fault 6 place ≡ fault (t .0 .number) (t .0 .place) = sym e ∙ t .2 .fault in
-      not-six _ (t .2 .state) (t .0) (y .fault) cc
+      not-six _ (t .2 .state) (t .0) (t .2 .why .fault) cc
 
   -- the run that has a difference is named
   difference-named : (n : ℕ) (v : Reading ℤ) → n < length (trace i64E s .readings) → getD (trace i64E s .readings) n absent ≡ v
@@ -135,64 +128,62 @@ module _ (s : List ℕ) where
       λ l e.
       having (columns i64E i64-laws s) absent v n n (length s) 0 (spot 0 0) (omega arith) (omega (arith, l, ap length w)) (ap (λ (xs : List (Reading ℤ)). getD xs n absent) (sym w) ∙ e)
 
-  pub delta-true : (number place : ℕ) → deltaTrace s .ending ≡ fault number place → (r : Reason) × (deltaReason s ≡ some r) × DeltaTrue s r
-  unfolding deltaReason deltaTrace differences
-  delta-true number place e = go summing
+  abbrev Why : Spot → Reason → Type 0
+  Why st r = ColumnFalls i64E s (Unread i64At s) st r ⊎ Leaves s st r
+
+  -- a reason of the run that is named, which is true
+  abbrev Given : ℕ → ℕ → Type 0
+  Given number place =
+      (r : Reason)
+      × (told number place (length (deltaTrace s .readings)) (λ st. st .at) (λ st. signedCount (i64At s (st .at))) (sumFacts s number place)
+      (holding (λ (st : Spot). st .had) (length (deltaTrace s .readings)) 0 (spotsOf i64E s)) ≡ some r)
+      × DeltaTrue s r
+
+  -- any fault but 6 is the differences' own
+  own : (number place : ℕ) → deltaTrace s .ending ≡ fault number place → deltaTrace s .ending ≡ trace i64E s .ending
+      → length (deltaTrace s .readings) ≡ length (trace i64E s .readings) → Given number place
+  own number place e x y =
+      let M = columns i64E i64-laws s in
+      let n = length (deltaTrace s .readings) in
+      let h : trace i64E s .ending ≡ fault number place = sym x ∙ e in
+      let other : number ≡ 6 → ⊥ = λ m. never-six place (h ∙ ap (λ (i : ℕ). fault i place) m) in
+      column-true i64E i64-laws s (deltaTrace s) (sumFacts s number place) number place (Faulty M n number place) Why (column-named i64E i64-laws s number place n h y) e
+      (λ k st f l. inl (difference-falls _ st (rw (ne-eqb number 6 other) refl) f l))
+
+  leaves : (number place : ℕ) → deltaTrace s .ending ≡ fault number place → number ≡ 6 → Beyond s (pos 0) (trace i64E s .readings) (trace i64E s .ending) place
+      → Given number place
+  unfolding deltaTrace
+  leaves number place e m y =
+      let n = length (deltaTrace s .readings) in
+      let v : Reading ℤ = present (y .d) place in
+      column-true i64E i64-laws s (deltaTrace s) (sumFacts s number place) number place (Having (columns i64E i64-laws s) absent v n) Why (difference-named n v (y .fewer) (y .reading)) e
+      (λ k st h l.
+      inr (
+      record {
+        number = m;
+        z = lastSum (pos 0) (deltaTrace s .readings);
+        d = y .d;
+        facts = rw (eq-eqb number 6 m) (ap (λ (g : Got ℤ). sum (lastSum (pos 0) (deltaTrace s .readings)) (delta g)) (y .read .1));
+        last = refl;
+        next = y .read .0;
+        there = y .read .1;
+        nth = h .0;
+        index = h .1;
+        reading = h .2;
+        held = y .held;
+        small = λ B. lt-ltb _ _ (i64-only s B place (y .read .0) (y .d) (y .read .1) .1);
+        outside = y .outside;
+      }
+      ))
+
+  pub delta-true : Explained (deltaTrace s) (deltaReason s) (DeltaTrue s)
+  unfolding deltaReason
+  delta-true = explained (deltaTrace s) _ (DeltaTrue s) (λ number place e. go number place e summing)
     where
-      n : ℕ
-      n = length (deltaTrace s .readings)
-
-      Why : Spot → Reason → Type 0
-      Why st r = ColumnFalls i64E s (Unread i64At s) st r ⊎ Leaves s st r
-
-      -- any fault but 6 is the differences' own
-      own : deltaTrace s .ending ≡ trace i64E s .ending → length (deltaTrace s .readings) ≡ length (trace i64E s .readings)
-          → (r : Reason) × (deltaReason s ≡ some r) × DeltaTrue s r
-      own x y =
-          let M = columns i64E i64-laws s in
-          let h : trace i64E s .ending ≡ fault number place = sym x ∙ e in
-          let other : number ≡ 6 → ⊥ = λ m. never-six place (h ∙ ap (λ (i : ℕ). fault i place) m) in
-          let t =
-          named-true M (deltaTrace s) (length s) (spot 0 0) refl (λ st. st .at) (λ p. signedCount (i64At s p)) (sumFacts s number place) Why number place n
-          (Faulty M n number place) (column-named i64E i64-laws s number place n h y) e refl
-          (λ k st f l. inl (difference-falls _ st (rw (ne-eqb number 6 other) refl) f l)) in
-          (t .0, by-fault (deltaTrace s .ending) _ number place e ∙ t .1, t .2)
-
-      leaves : number ≡ 6 → Beyond s (pos 0) (trace i64E s .readings) (trace i64E s .ending) place → (r : Reason) × (deltaReason s ≡ some r) × DeltaTrue s r
-      leaves m y =
-          let M = columns i64E i64-laws s in
-          let v : Reading ℤ = present (y .d) place in
-          let t =
-          named-true M (deltaTrace s) (length s) (spot 0 0) refl (λ st. st .at) (λ p. signedCount (i64At s p)) (sumFacts s number place) Why number place n
-          (Having M absent v n) (difference-named n v (y .fewer) (y .reading)) e refl
-          (λ k st h l.
-          inr (
-          record {
-            number = m;
-            z = lastSum (pos 0) (deltaTrace s .readings);
-            d = y .d;
-            facts = rw (eq-eqb number 6 m) (ap (λ (g : Got ℤ). sum (lastSum (pos 0) (deltaTrace s .readings)) (delta g)) (y .read .1));
-            last = refl;
-            next = y .read .0;
-            there = y .read .1;
-            nth = h .0;
-            index = h .1;
-            reading = h .2;
-            held = y .held;
-            small = λ B. lt-ltb _ _ (i64-only s B place (y .read .0) (y .d) (y .read .1) .1);
-            outside = y .outside;
-          }
-          )) in
-          (t .0, by-fault (deltaTrace s .ending) _ number place e ∙ t .1, t .2)
-
-      go : Summed s (pos 0) differences (trace i64E s .ending) (deltaTrace s) → (r : Reason) × (deltaReason s ≡ some r) × DeltaTrue s r
-      go (inl x) = own (x .0) (x .1)
-      go (inr x) =
+      go : (number place : ℕ) → deltaTrace s .ending ≡ fault number place → Summed s (pos 0) (trace i64E s .readings) (trace i64E s .ending) (deltaTrace s) → Given number place
+      go number place e (inl x) = own number place e (x .0) (x .1)
+      go number place e (inr x) =
           let q : fault 6 (x .0) ≡ fault number place = sym (x .1) ∙ e in
           let m : 6 ≡ number = cc in
           let p : x .0 ≡ place = cc in
-          leaves (sym m) (rw p at (x .2))
-
-  pub delta-sound : deltaTrace s .ending ≡ sound → deltaReason s ≡ none
-  unfolding deltaReason
-  delta-sound e = rw e refl
+          leaves number place e (sym m) (rw p at (x .2))

@@ -3,7 +3,6 @@ use Prim.Native.Nat.{ℕ, _+_, _-_, _≤_, min}
 use mathlib.Core.Logic.{_⊎_, inl, inr}
 use mathlib.Core.Path.{_≡_, refl, sym, _∙_, ap}
 use mathlib.Core.List.{List}
-use mathlib.Core.Option.{none, some}
 use mathlib.Core.Bool.{Bool, true, false, cond}
 use native.Mathlib.Omega.{arith}
 use lib.Dec.{leb}
@@ -14,18 +13,18 @@ use Rattle.leb128.specs.Digits.{Digits, whole, broken, digits}
 use Rattle.leb128.specs.Got.{Got, got, bad}
 use Rattle.leb128.specs.Read.{signedOf, sLarge, sLong, unsigned, signed, u64At, i64At}
 use Rattle.leb128.proofs.Laws.{u64-next}
-use Rattle.encoding.specs.Column.{Spot, spot, trace}
+use Rattle.encoding.specs.Column.{Spot, trace}
 use Rattle.encoding.specs.Limit.{limit}
-use Rattle.encoding.specs.Walk.{sound, fault}
+use Rattle.encoding.specs.Walk.{fault}
 use Rattle.encoding.proofs.Columns.{columns}
 use Rattle.utf8.specs.Utf8.{isUtf8}
 use Rattle.text.specs.Text.{bytesAt, valued, textAt, textE}
 use Rattle.text.proofs.TextLaws.{text-laws}
-use Rattle.reason.specs.Reason.{name, Reason, signedCount, named, nameFacts, textReason}
-use Rattle.reason.specs.True.{Broken, NameFault, ColumnFalls, TextTrue}
+use Rattle.reason.specs.Reason.{name, Reason, named, nameFacts, textReason}
+use Rattle.reason.specs.True.{Explained, NameFault, ColumnFalls, TextTrue}
 use Rattle.reason.proofs.Named.{Faulty}
 use Rattle.reason.proofs.RunFaults.{Says, u64-unread, run-fault}
-use Rattle.reason.proofs.Truths.{by-fault, named-true, unlike, column-named}
+use Rattle.reason.proofs.Truths.{explained, unlike, column-named, column-true}
 
 -- bytes that end, within a number or before it, are refused alike by both readers
 both-end : (s : List ℕ) (p number place : ℕ) → (number ≡ 2 → ⊥) → (number ≡ 3 → ⊥) → i64At s p ≡ bad number place → u64At s p ≡ bad number place
@@ -102,17 +101,11 @@ module _ (s : List ℕ) where
         not-five (inl e) g = omega arith
         not-five (inr e) g = omega arith
 
-  pub text-true : (number place : ℕ) → (number ≡ 2 → ⊥) → (number ≡ 3 → ⊥) → trace textE s .ending ≡ fault number place → (r : Reason) × (textReason s ≡ some r) × TextTrue s r
+  pub text-true : Explained (trace textE s) (textReason s) (TextTrue s)
   unfolding textReason
-  text-true number place a b e =
+  text-true =
       let n = length (trace textE s .readings) in
-      let M = columns textE text-laws s in
-      let t =
-      named-true M (trace textE s) (length s) (spot 0 0) refl (λ st. st .at) (λ p. signedCount (i64At s p)) (nameFacts s number place)
-      (ColumnFalls textE s (NameFault s)) number place n (Faulty M n number place) (column-named textE text-laws s number place n e refl) e refl
-      (λ k st y l. name-falls _ st refl a b y l) in
-      (t .0, by-fault (trace textE s .ending) _ number place e ∙ t .1, t .2)
-
-  pub text-sound : trace textE s .ending ≡ sound → textReason s ≡ none
-  unfolding textReason
-  text-sound e = rw e refl
+      explained (trace textE s) _ (TextTrue s)
+      (λ number place e.
+      column-true textE text-laws s (trace textE s) (nameFacts s number place) number place (Faulty (columns textE text-laws s) n number place) _
+      (column-named textE text-laws s number place n e refl) e (λ k st y l a b. name-falls _ st refl a b y l))
