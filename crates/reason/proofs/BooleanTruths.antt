@@ -23,12 +23,12 @@ use Rattle.reason.proofs.Truths.{explained, named-true, fault-named, un
 module _ (s : List ℕ) where
   -- what is at fault in a count
   turn-fault : (r : Reason) (st : Turn) → r .facts ≡ turnFacts s (r .number) (r .place) st → Faulty (turns s) (r .index) (r .number) (r .place) st → st .had ≤ limit
-      → Falls (turnAt s) (λ st. st .had) (λ k. TurnFault s) st r
+      → Falls (turnAt s) (λ st. st .had) (TurnFault s) st r
   unfolding turnAt counted
   turn-fault r st f y l = record { falls = y .0; index = y .1; fault = cond-by Told (ltb (st .at) (length s)) begun (λ t o. let z : _≡_ {A = ℕ} 0 1 = cc in absurd (omega arith)) (y .0) }
     where
       Told : Run ℕ Turn → Type 0
-      Told x = x .next ≡ off (r .number) (r .place) → TurnFault s st r
+      Told x = x .next ≡ off (r .number) (r .place) → TurnFault s (length (x .readings)) st r
 
       five : r .number ≡ 5 → r .facts ≡ passes (st .had) (second (u64At s (st .at)))
       five e = f ∙ rw (eq-eqb (r .number) 5 e) refl
@@ -42,13 +42,13 @@ module _ (s : List ℕ) where
           (λ t o.
           let m : 5 ≡ r .number = cc in
           let p : st .at ≡ r .place = cc in
-          TurnFault.many (sym m) (five (sym m) ∙ ap (λ (g : Got ℕ). passes (st .had) (second g)) e) (sym p) e l (leb-false (st .had + c) limit t))
+          TurnFault.many refl (sym m) (five (sym m) ∙ ap (λ (g : Got ℕ). passes (st .had) (second g)) e) (sym p) e l (leb-false (st .had + c) limit t))
       counts h (bad m p) e = λ o.
           let i : m ≡ r .number = cc in
           let j : p ≡ r .place = cc in
           let b : u64At s (st .at) ≡ bad (r .number) (r .place) = e ∙ rw (i, j) refl in
           let u = u64-unread s r (st .at) h says b in
-          TurnFault.first (u .0) (u .1)
+          TurnFault.first refl (u .0) (u .1)
 
       begun : ltb (st .at) (length s) ≡ true → Told (counted st (u64At s (st .at)))
       begun t = let h = ltb-true (st .at) (length s) t in counts (omega arith) (u64At s (st .at)) refl
@@ -60,5 +60,5 @@ module _ (s : List ℕ) where
       explained (boolTrace s) _ (BooleanTrue s)
       (λ number place e.
       named-true (turns s) (turn 0 0 0) refl (length s) (boolTrace s) (λ st. st .at) (λ p. unsignedCount (u64At s p)) (turnFacts s number place) number place
-      (Faulty (turns s) n number place) (Falls (turnAt s) (λ st. st .had) (λ k. TurnFault s))
+      (Faulty (turns s) n number place) (Falls (turnAt s) (λ st. st .had) (TurnFault s))
       (fault-named (turns s) (turn 0 0 0) refl (length s) (length s - 0) number place n (omega arith) e refl) e (λ k st. turn-fault _ st refl))

@@ -99,9 +99,9 @@ module _ (s : List ℕ) where
 
   -- no difference is refused with 6 itself
   not-six : (k : ℕ) (st : Spot) (r : Reason) → RunFault i64E s (Unread i64At s) k st r → r .number ≡ 6 → ⊥
-  not-six k st r (RunFault.first e u) h = unlike (u .broken) 6 (omega arith) (omega arith) h
-  not-six k st r (RunFault.second e u) h = unlike (u .broken) 6 (omega arith) (omega arith) h
-  not-six k st r (RunFault.many e f a l m) h = omega arith
+  not-six k st r (RunFault.first o e u) h = unlike (u .broken) 6 (omega arith) (omega arith) h
+  not-six k st r (RunFault.second o e u) h = unlike (u .broken) 6 (omega arith) (omega arith) h
+  not-six k st r (RunFault.many o e f a l m) h = omega arith
   not-six k st r (RunFault.value v u) h = unlike (u .broken) 6 (omega arith) (omega arith) h
 
   -- the fault of a difference

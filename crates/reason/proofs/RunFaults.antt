@@ -91,7 +91,7 @@ module _ {A : Type 0} (E : Element A) (L : ElementLaws E) (s : List ℕ) (Value 
       (λ t o.
       let m : 5 ≡ r .number = cc in
       let j : p ≡ r .place = cc in
-      RunFault.many (sym m) (five (sym m) ∙ ap (passes (st .had)) e) (rw j at a) within-limit (leb-false (st .had + c) limit t))
+      RunFault.many refl (sym m) (five (sym m) ∙ ap (passes (st .had)) e) (rw j at a) within-limit (leb-false (st .had + c) limit t))
 
   repeat-told : (c q : ℕ) → 0 < c → q ≤ length s → i64At s (st .at) ≡ got (pos c) q → (g : Got A) → E .read s q ≡ g → Told (repeated (st .had) c q g)
   unfolding repeated
@@ -117,7 +117,7 @@ module _ {A : Type 0} (E : Element A) (L : ElementLaws E) (s : List ℕ) (Value 
       let j : p ≡ r .place = cc in
       let b : u64At s q ≡ bad (r .number) (r .place) = h ∙ rw (i, j) refl in
       let u = u64-unread s r q l unsigned-says b in
-      RunFault.second (e ∙ ap (got (pos 0)) (sym (u .0))) (u .1)
+      RunFault.second refl (e ∙ ap (got (pos 0)) (sym (u .0))) (u .1)
 
   begun-told : st .at ≤ length s → (g : Got ℤ) → i64At s (st .at) ≡ g → ToldHead (begun s (st .at) (st .had) g)
   unfolding begun runOf
@@ -127,7 +127,7 @@ module _ {A : Type 0} (E : Element A) (L : ElementLaws E) (s : List ℕ) (Value 
       let j : p ≡ r .place = cc in
       let b : i64At s (st .at) ≡ bad (r .number) (r .place) = e ∙ rw (i, j) refl in
       let u = i64-unread s r (st .at) l signed-says b in
-      RunFault.first (u .0) (u .1)
+      RunFault.first refl (u .0) (u .1)
   begun-told l (got (pos c) q) e =
       let n = i64-next s (st .at) q (pos c) e .1 in
       cond-by ToldHead (eqb c 0)

@@ -13,7 +13,7 @@ use Rattle.leb128.specs.Digits.{Digits, whole, broken, digits}
 use Rattle.leb128.specs.Got.{Got, got, bad}
 use Rattle.leb128.specs.Read.{signedOf, sLarge, sLong, unsigned, signed, u64At, i64At}
 use Rattle.leb128.proofs.Laws.{u64-next}
-use Rattle.encoding.specs.Column.{Spot, trace}
+use Rattle.encoding.specs.Column.{Spot, runAt, trace}
 use Rattle.encoding.specs.Limit.{limit}
 use Rattle.encoding.specs.Walk.{fault}
 use Rattle.encoding.proofs.Columns.{columns}
@@ -21,7 +21,7 @@ use Rattle.utf8.specs.Utf8.{isUtf8}
 use Rattle.text.specs.Text.{bytesAt, valued, textAt, textE}
 use Rattle.text.proofs.TextLaws.{text-laws}
 use Rattle.reason.specs.Reason.{name, Reason, named, nameFacts, textReason}
-use Rattle.reason.specs.True.{Explained, NameFault, ColumnFalls, TextTrue}
+use Rattle.reason.specs.True.{Explained, Falls, RunFault, NameFault, TextTrue}
 use Rattle.reason.proofs.Named.{Faulty}
 use Rattle.reason.proofs.RunFaults.{Says, u64-unread, run-fault}
 use Rattle.reason.proofs.Truths.{explained, unlike, column-named, column-true}
@@ -86,15 +86,16 @@ module _ (s : List ℕ) where
     says : Says u64At s r
     says e b = by-name (unlike b 5 (omega arith) (omega arith)) ∙ ap (named s (r .place)) e
 
-    name-falls : (r .number ≡ 2 → ⊥) → (r .number ≡ 3 → ⊥) → Faulty (columns textE text-laws s) (r .index) (r .number) (r .place) st → st .had ≤ limit
-        → ColumnFalls textE s (NameFault s) st r
-    name-falls a b y l =
+    name-falls : Faulty (columns textE text-laws s) (r .index) (r .number) (r .place) st → st .had ≤ limit
+        → Falls (runAt textE s) (λ st. st .had) (λ k st r. (r .number ≡ 2 → ⊥) → (r .number ≡ 3 → ⊥) → RunFault textE s (NameFault s) k st r) st r
+    name-falls y l =
         record {
           falls = y .0;
           index = y .1;
           fault =
-              run-fault textE text-laws s (NameFault s) st r l (λ e. f ∙ rw (eq-eqb (r .number) 5 e) refl) (λ e. says (both-end s (r .place) (r .number) (r .place) a b e)) says
-              (name-fault s r says (λ w. by-name (not-five w))) (y .0);
+              λ a b.
+              run-fault textE text-laws s (NameFault s) st r l (λ e. f ∙ rw (eq-eqb (r .number) 5 e) refl)
+              (λ e. says (both-end s (r .place) (r .number) (r .place) a b e)) says (name-fault s r says (λ w. by-name (not-five w))) (y .0);
         }
       where
         not-five : (r .number ≡ 1) ⊎ (r .number ≡ 20) → r .number ≡ 5 → ⊥
@@ -108,4 +109,4 @@ module _ (s : List ℕ) where
       explained (trace textE s) _ (TextTrue s)
       (λ number place e.
       column-true textE text-laws s (trace textE s) (nameFacts s number place) number place (Faulty (columns textE text-laws s) n number place) _
-      (column-named textE text-laws s number place n e refl) e (λ k st y l a b. name-falls _ st refl a b y l))
+      (column-named textE text-laws s number place n e refl) e (λ k st. name-falls _ st refl))

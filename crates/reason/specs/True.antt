@@ -97,9 +97,9 @@ pub data ValueAt {A : Type 0} (E : Element A) (s : List ℕ) (at k place : ℕ) 
 -- what is at fault, behind k readings of the run: its count, a signed number; of an absent run the second number; for 5, "the readings before the run and the count that passes
 -- the limit"; or a value, of which `Value` says what is true
 pub data RunFault {A : Type 0} (E : Element A) (s : List ℕ) (Value : Reason → Type 0) (k : ℕ) (st : Spot) (r : Reason) : Type 0 where
-  first : r .place ≡ st .at → Unread i64At s r → RunFault E s Value k st r
-  second : i64At s (st .at) ≡ got (pos 0) (r .place) → Unread u64At s r → RunFault E s Value k st r
-  many : {c : ℕ} → r .number ≡ 5 → r .facts ≡ passes (st .had) c → Asks s (st .at) c (r .place) → st .had ≤ limit → limit < st .had + c → RunFault E s Value k st r
+  first : k ≡ 0 → r .place ≡ st .at → Unread i64At s r → RunFault E s Value k st r
+  second : k ≡ 0 → i64At s (st .at) ≡ got (pos 0) (r .place) → Unread u64At s r → RunFault E s Value k st r
+  many : {c : ℕ} → k ≡ 0 → r .number ≡ 5 → r .facts ≡ passes (st .had) c → Asks s (st .at) c (r .place) → st .had ≤ limit → limit < st .had + c → RunFault E s Value k st r
   value : ValueAt E s (st .at) k (r .place) → Value r → RunFault E s Value k st r
 
 -- ---- the kinds
@@ -121,9 +121,11 @@ pub data NameFault (s : List ℕ) (r : Reason) : Type 0 where
   characters : {n q m : ℕ} → r .number ≡ 20 → r .facts ≡ name n m → u64At s (r .place) ≡ got n q → q + m ≡ length s → n ≤ m → isUtf8 (bytesAt s q n) ≡ false
       → NameFault s r
 
--- where the fault is 2 or 3, only the run is said
+-- what is at fault is said where it is neither 2 nor 3
 abbrev pub TextTrue : List ℕ → Reason → Type 0
-TextTrue s = ColumnTrue textE s (trace textE s) (λ st r. (r .number ≡ 2 → ⊥) → (r .number ≡ 3 → ⊥) → ColumnFalls textE s (NameFault s) st r)
+TextTrue s =
+    ColumnTrue textE s (trace textE s)
+    (Falls (runAt textE s) (λ st. st .had) (λ k st r. (r .number ≡ 2 → ⊥) → (r .number ≡ 3 → ⊥) → RunFault textE s (NameFault s) k st r))
 
 -- "for 6, the sum before and the delta": the run at a state holds the delta at the place, at the index named; the last sum before it and the delta are held by an i64 each (where
 -- the column's bytes are bytes), and together they are not
@@ -147,12 +149,12 @@ abbrev pub DeltaTrue : List ℕ → Reason → Type 0
 DeltaTrue s = ColumnTrue i64E s (deltaTrace s) (λ st r. ColumnFalls i64E s (Unread i64At s) st r ⊎ Leaves s st r)
 
 -- a run of a boolean column is one count
-pub data TurnFault (s : List ℕ) (st : Turn) (r : Reason) : Type 0 where
-  first : r .place ≡ st .at → Unread u64At s r → TurnFault s st r
-  many : {c q : ℕ} → r .number ≡ 5 → r .facts ≡ passes (st .had) c → r .place ≡ st .at → u64At s (st .at) ≡ got c q → st .had ≤ limit → limit < st .had + c
-      → TurnFault s st r
+pub data TurnFault (s : List ℕ) (k : ℕ) (st : Turn) (r : Reason) : Type 0 where
+  first : k ≡ 0 → r .place ≡ st .at → Unread u64At s r → TurnFault s k st r
+  many : {c q : ℕ} → k ≡ 0 → r .number ≡ 5 → r .facts ≡ passes (st .had) c → r .place ≡ st .at → u64At s (st .at) ≡ got c q → st .had ≤ limit → limit < st .had + c
+      → TurnFault s k st r
 
 abbrev pub BooleanTrue : List ℕ → Reason → Type 0
 BooleanTrue s =
     True (boolTrace s) (turnAt s) (turn 0 0 0) (λ st. st .at) (λ st. st .had) (λ p. unsignedCount (u64At s p))
-    (Falls (turnAt s) (λ st. st .had) (λ k. TurnFault s))
+    (Falls (turnAt s) (λ st. st .had) (TurnFault s))
