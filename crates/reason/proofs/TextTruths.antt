@@ -73,7 +73,7 @@ module _ (s : List ℕ) (r : Reason) (unsigned-says : Says u64At s r) (by-name :
           let i : m ≡ r .number = cc in
           let j : k ≡ r .place = cc in
           let u = u64-unread s r q l unsigned-says (e ∙ rw (i, j) refl) in
-          (u .0, NameFault.number (u .1))
+          (u .0, NameFault.size (u .1))
 
 -- ---- a text column
 

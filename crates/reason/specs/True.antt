@@ -9,6 +9,7 @@ use mathlib.Core.Option as option
 use mathlib.Core.Bool.{true, false}
 use lib.IntN.{ℤ, pos, negsuc, _+ℤ_}
 use lib.ListN.{length, getD}
+use Rattle.column_specification.specs.Served.{integerType, deltaType, booleanType, textType}
 use Rattle.leb128.specs.Got.{Got, got, bad}
 use Rattle.leb128.specs.Read.{u64At, i64At}
 use Rattle.encoding.specs.Column.{absent, present, Spot, spot, runAt, trace}
@@ -22,6 +23,7 @@ use Rattle.delta_decoder.specs.Sums.{deltaTrace}
 use Rattle.boolean_decoder.specs.Turns.{Turn, turn, turnAt, boolTrace}
 use Rattle.utf8.specs.Utf8.{isUtf8}
 use Rattle.text.specs.Text.{bytesAt, textE}
+use Rattle.reason.specs.Columns.{Told, because, faultless, refused}
 use Rattle.reason.specs.Reason.{Count, bytes, name, passes, sum, Reason, signedCount, unsignedCount, lastSum}
 
 -- THE REASONS OF A COLUMN that reads as t: each that is given is true, as `Is` says; a fault has one, and a sound column has none
@@ -116,7 +118,7 @@ IntegerTrue s = ColumnTrue u64E s (trace u64E s) (ColumnFalls u64E s (Unread u64
 
 -- a name at fault: its length number; the bytes that are there for it; or those bytes
 pub data NameFault (s : List ℕ) (r : Reason) : Type 0 where
-  number : Unread u64At s r → NameFault s r
+  size : Unread u64At s r → NameFault s r
   cut : {n q m : ℕ} → r .number ≡ 1 → r .facts ≡ name n m → u64At s (r .place) ≡ got n q → q + m ≡ length s → m < n → NameFault s r
   characters : {n q m : ℕ} → r .number ≡ 20 → r .facts ≡ name n m → u64At s (r .place) ≡ got n q → q + m ≡ length s → n ≤ m → isUtf8 (bytesAt s q n) ≡ false
       → NameFault s r
@@ -158,3 +160,20 @@ abbrev pub BooleanTrue : List ℕ → Reason → Type 0
 BooleanTrue s =
     True (boolTrace s) (turnAt s) (turn 0 0 0) (λ st. st .at) (λ st. st .had) (λ p. unsignedCount (u64At s p))
     (Falls (turnAt s) (λ st. st .had) (TurnFault s))
+
+-- ---- the call over a column's bytes and its type
+
+-- what is said of the kind that a type is of
+pub data OfKind (t : ℕ) (Integer Delta Boolean Text : Type 0) : Type 0 where
+  integer : integerType t ≡ true → Integer → OfKind t Integer Delta Boolean Text
+  delta : deltaType t ≡ true → Delta → OfKind t Integer Delta Boolean Text
+  boolean : booleanType t ≡ true → Boolean → OfKind t Integer Delta Boolean Text
+  text : textType t ≡ true → Text → OfKind t Integer Delta Boolean Text
+
+-- a reason that it gives is true; where it gives none, the column is sound; "types that no call serves get 17 and no reason"
+abbrev pub CallTrue : ℕ → List ℕ → Told → Type 0
+CallTrue t s (because r) = OfKind t (IntegerTrue s r) (DeltaTrue s r) (BooleanTrue s r) (TextTrue s r)
+CallTrue t s faultless =
+    OfKind t (trace u64E s .ending ≡ walk.sound) (deltaTrace s .ending ≡ walk.sound) (boolTrace s .ending ≡ walk.sound) (trace textE s .ending ≡ walk.sound)
+CallTrue t s (refused number place) =
+    (number ≡ 17) × (place ≡ 0) × (integerType t ≡ false) × (deltaType t ≡ false) × (booleanType t ≡ false) × (textType t ≡ false)
