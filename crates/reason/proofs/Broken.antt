@@ -12,7 +12,7 @@ use lib.Dec.{ltb, eqb}
 use lib.ListN.{length, getD, drop, length-drop}
 use lib.Seq.{getD-drop}
 use borrow.Author.Tests.{ltb-true, ltb-false, eqb-true, eqb-false, eq-eqb, ne-eqb}
-use Rattle.leb128.specs.Got.{got, bad}
+use Rattle.leb128.specs.Got.{Got, got, bad}
 use Rattle.leb128.specs.Digits.{Digits, whole, broken, more, ended, digits}
 use Rattle.leb128.specs.Read.{uLarge, uLong, unsigned, sLarge, sLong, signedOf, signed, u64At, i64At}
 use Rattle.reason.specs.Reason.{numberBytes}
@@ -100,41 +100,43 @@ module _ (s : List ℕ) (at m : ℕ) (l : at ≤ length s) where
   broken-digits number r e (inl x) = full-broken number (inl (sym e ∙ x .0)) (x .1)
   broken-digits number r e (inr x) = short-broken number (sym e ∙ x .0) (x .1)
 
--- the refusal of whole digits, and its place
-module _ (number place p next : ℕ) where
-  judged : {A : Type 0} (a b : Bool) (v : A) → cond a (bad 2 p) (cond b (bad 3 p) (got v next)) ≡ bad number place → ((number ≡ 2) ⊎ (number ≡ 3)) × (place ≡ p)
-  judged true b v e = (inl cc, cc)
-  judged false true v e = (inr cc, cc)
-  judged false false v e = let z : _≡_ {A = ℕ} 0 1 = cc in absurd (omega arith)
+-- ---- of a reader, by what it makes of digits
 
-module _ (s : List ℕ) (at number place : ℕ) (l : at ≤ length s) where
-  here : min at (length s) ≡ at
-  here = omega arith
-
-  pub u64-broken : u64At s at ≡ bad number place → (place ≡ at) × Broken s number at (numberBytes 0 (drop at s))
-  unfolding u64At
-  u64-broken e = go (digits 0 0 (drop at s)) (spans 0 0 (drop at s) (omega arith)) e
+module _ {A : Type 0} (s : List ℕ) (at number place : ℕ) (of : Digits → Got A)
+    (whole-bad : (low scale prev last count : ℕ) → of (whole low scale prev last count) ≡ bad number place → ((number ≡ 2) ⊎ (number ≡ 3)) × (place ≡ min at (length s)))
+    (broken-bad : (r : ℕ) → of (broken r) ≡ bad r (min at (length s))) where
+  digits-broken : at ≤ length s → of (digits 0 0 (drop at s)) ≡ bad number place → (place ≡ at) × Broken s number at (numberBytes 0 (drop at s))
+  digits-broken l e = go (digits 0 0 (drop at s)) (spans 0 0 (drop at s) (omega arith)) e
     where
-      go : (c : Digits) → Spans (drop at s) 0 (numberBytes 0 (drop at s)) c → unsigned at (min at (length s)) c ≡ bad number place
-          → (place ≡ at) × Broken s number at (numberBytes 0 (drop at s))
+      here : min at (length s) ≡ at
+      here = omega arith
+
+      go : (c : Digits) → Spans (drop at s) 0 (numberBytes 0 (drop at s)) c → of c ≡ bad number place → (place ≡ at) × Broken s number at (numberBytes 0 (drop at s))
       go (whole low scale prev last count) f k =
-          let j = judged number place (min at (length s)) (at + count) (uLarge last count) (uLong last count) (low + scale * last) k in
+          let j = whole-bad low scale prev last count k in
           (j .1 ∙ here, full-broken s at (numberBytes 0 (drop at s)) l number (j .0) f)
       go (broken r) f k =
+          let b : _≡_ {A = Got A} (bad r (min at (length s))) (bad number place) = sym (broken-bad r) ∙ k in
           let q : place ≡ min at (length s) = cc in
           let m : r ≡ number = cc in
           (q ∙ here, broken-digits s at (numberBytes 0 (drop at s)) l number r m f)
+
+-- whole digits that are refused
+pub judged : {A : Type 0} (number place p next : ℕ) (a b : Bool) (v : A) → cond a (bad 2 p) (cond b (bad 3 p) (got v next)) ≡ bad number place
+    → ((number ≡ 2) ⊎ (number ≡ 3)) × (place ≡ p)
+judged number place p next true b v e = (inl cc, cc)
+judged number place p next false true v e = (inr cc, cc)
+judged number place p next false false v e = let z : _≡_ {A = ℕ} 0 1 = cc in absurd (omega arith)
+
+module _ (s : List ℕ) (at number place : ℕ) (l : at ≤ length s) where
+  pub u64-broken : u64At s at ≡ bad number place → (place ≡ at) × Broken s number at (numberBytes 0 (drop at s))
+  unfolding u64At
+  u64-broken =
+      digits-broken s at number place (unsigned at (min at (length s)))
+      (λ low scale prev last count. judged number place (min at (length s)) (at + count) (uLarge last count) (uLong last count) (low + scale * last)) (λ r. refl) l
 
   pub i64-broken : i64At s at ≡ bad number place → (place ≡ at) × Broken s number at (numberBytes 0 (drop at s))
   unfolding i64At
-  i64-broken e = go (digits 0 0 (drop at s)) (spans 0 0 (drop at s) (omega arith)) e
-    where
-      go : (c : Digits) → Spans (drop at s) 0 (numberBytes 0 (drop at s)) c → signed at (min at (length s)) c ≡ bad number place
-          → (place ≡ at) × Broken s number at (numberBytes 0 (drop at s))
-      go (whole low scale prev last count) f k =
-          let j = judged number place (min at (length s)) (at + count) (sLarge last count) (sLong prev last count) (signedOf low scale last) k in
-          (j .1 ∙ here, full-broken s at (numberBytes 0 (drop at s)) l number (j .0) f)
-      go (broken r) f k =
-          let q : place ≡ min at (length s) = cc in
-          let m : r ≡ number = cc in
-          (q ∙ here, broken-digits s at (numberBytes 0 (drop at s)) l number r m f)
+  i64-broken =
+      digits-broken s at number place (signed at (min at (length s)))
+      (λ low scale prev last count. judged number place (min at (length s)) (at + count) (sLarge last count) (sLong prev last count) (signedOf low scale last)) (λ r. refl) l

@@ -1,12 +1,11 @@
 -- THE REASON OF A TEXT COLUMN IS TRUE. A value is refused as its length number is, where bytes of the name are missing, or where they are not UTF-8. Assumes nothing.
 use Prim.Native.Nat.{ℕ, _+_, _-_, _≤_, min}
 use mathlib.Core.Logic.{_⊎_, inl, inr}
-use mathlib.Core.Path.{_≡_, refl, sym, _∙_, ap}
+use mathlib.Core.Path.{_≡_, refl, _∙_, ap}
 use mathlib.Core.List.{List}
 use mathlib.Core.Bool.{Bool, true, false, cond}
 use native.Mathlib.Omega.{arith}
 use lib.Dec.{leb}
-use lib.IntN.{ℤ}
 use lib.ListN.{length, drop}
 use borrow.Author.Tests.{leb-true, leb-false, eq-eqb, ne-eqb}
 use Rattle.leb128.specs.Digits.{Digits, whole, broken, digits}
@@ -22,6 +21,7 @@ use Rattle.text.specs.Text.{bytesAt, valued, textAt, textE}
 use Rattle.text.proofs.TextLaws.{text-laws}
 use Rattle.reason.specs.Reason.{name, Reason, named, nameFacts, textReason}
 use Rattle.reason.specs.True.{Explained, Falls, RunFault, NameFault, TextTrue}
+use Rattle.reason.proofs.Broken.{judged}
 use Rattle.reason.proofs.Named.{Faulty}
 use Rattle.reason.proofs.RunFaults.{Says, u64-unread, run-fault}
 use Rattle.reason.proofs.Truths.{explained, unlike, column-named, column-true}
@@ -31,13 +31,13 @@ both-end : (s : List ℕ) (p number place : ℕ) → (number ≡ 2 → ⊥) → 
 unfolding u64At i64At
 both-end s p number place a b = go (digits 0 0 (drop p s))
   where
-    judged : (m at : ℕ) (x : ℤ) (t u : Bool) → cond t (bad 2 m) (cond u (bad 3 m) (got x at)) ≡ bad number place → ⊥
-    judged m at x true u e = let z : 2 ≡ number = cc in a (sym z)
-    judged m at x false true e = let z : 3 ≡ number = cc in b (sym z)
-    judged m at x false false e = let z : _≡_ {A = ℕ} 0 1 = cc in omega arith
+    large-or-long : (number ≡ 2) ⊎ (number ≡ 3) → ⊥
+    large-or-long (inl e) = a e
+    large-or-long (inr e) = b e
 
     go : (c : Digits) → signed p (min p (length s)) c ≡ bad number place → unsigned p (min p (length s)) c ≡ bad number place
-    go (whole low scale prev last count) e = absurd (judged (min p (length s)) (p + count) (signedOf low scale last) (sLarge last count) (sLong prev last count) e)
+    go (whole low scale prev last count) e =
+        absurd (large-or-long (judged number place (min p (length s)) (p + count) (sLarge last count) (sLong prev last count) (signedOf low scale last) e .0))
     go (broken r) e = cc
 
 -- ---- a value
