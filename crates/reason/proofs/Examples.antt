@@ -56,3 +56,8 @@ second-count = refl
 pub name-cut : textReason (0x7f ∷ 0x02 ∷ 0x61 ∷ []) ≡ some (record { number = 1; place = 1; run = 0; begins = 0; count = minus 1; index = 0; facts = name 2 1 })
 unfolding textReason trace traceFrom walk runAt runOf headAt begun absentHead literals literalNext textAt u64At i64At runs holding numberBytes
 name-cut = refl
+
+-- a count that is too long as a signed number, and would read as a name's length
+pub count-overlong : textReason (0xff ∷ 0x7f ∷ []) ≡ some (record { number = 3; place = 0; run = 0; begins = 0; count = unread; index = 0; facts = bytes 2 })
+unfolding textReason trace traceFrom walk runAt runOf headAt begun absentHead literals literalNext textAt u64At i64At runs holding numberBytes
+count-overlong = refl

@@ -12,19 +12,19 @@ use Rattle.leb128.specs.Digits.{Digits, whole, broken, digits}
 use Rattle.leb128.specs.Got.{Got, got, bad}
 use Rattle.leb128.specs.Read.{signedOf, sLarge, sLong, unsigned, signed, u64At, i64At}
 use Rattle.leb128.proofs.Laws.{u64-next}
-use Rattle.encoding.specs.Column.{Spot, runAt, trace}
+use Rattle.encoding.specs.Column.{Spot, trace}
 use Rattle.encoding.specs.Limit.{limit}
 use Rattle.encoding.specs.Walk.{fault}
 use Rattle.encoding.proofs.Columns.{columns}
 use Rattle.utf8.specs.Utf8.{isUtf8}
 use Rattle.text.specs.Text.{bytesAt, valued, textAt, textE}
 use Rattle.text.proofs.TextLaws.{text-laws}
-use Rattle.reason.specs.Reason.{name, Reason, named, nameFacts, textReason}
-use Rattle.reason.specs.True.{Explained, Falls, RunFault, NameFault, TextTrue}
+use Rattle.reason.specs.Reason.{bytes, name, Reason, numberBytes, named, plainFacts, nameFacts, textReason}
+use Rattle.reason.specs.True.{Explained, Broken, ColumnFalls, NameFault, TextTrue}
 use Rattle.reason.proofs.Broken.{judged}
 use Rattle.reason.proofs.Named.{Faulty}
 use Rattle.reason.proofs.RunFaults.{Says, u64-unread, run-fault}
-use Rattle.reason.proofs.Truths.{explained, unlike, column-named, column-true}
+use Rattle.reason.proofs.Truths.{explained, column-named, column-true}
 
 -- bytes that end, within a number or before it, are refused alike by both readers
 both-end : (s : List ℕ) (p number place : ℕ) → (number ≡ 2 → ⊥) → (number ≡ 3 → ⊥) → i64At s p ≡ bad number place → u64At s p ≡ bad number place
@@ -78,29 +78,37 @@ module _ (s : List ℕ) (r : Reason) (unsigned-says : Says u64At s r) (by-name :
 -- ---- a text column
 
 module _ (s : List ℕ) where
-  -- facts that are those of the name, for every number but 5
   module _ (r : Reason) (st : Spot) (f : r .facts ≡ nameFacts s (r .number) (r .place) st) where
-    by-name : (r .number ≡ 5 → ⊥) → r .facts ≡ named s (r .place) (u64At s (r .place))
-    by-name h = f ∙ rw (ne-eqb (r .number) 5 h) refl
+    -- the facts of 1 and 20
+    by-name : (r .number ≡ 1) ⊎ (r .number ≡ 20) → r .facts ≡ named s (r .place) (u64At s (r .place))
+    by-name (inl e) = f ∙ rw e refl
+    by-name (inr e) = f ∙ rw e refl
 
-    says : Says u64At s r
-    says e b = by-name (unlike b 5 (omega arith) (omega arith)) ∙ ap (named s (r .place)) e
+    -- and of other numbers
+    plainly : (r .number ≡ 1 → ⊥) → (r .number ≡ 20 → ⊥) → r .facts ≡ plainFacts s (r .number) (r .place) st
+    plainly a b = f ∙ rw (ne-eqb (r .number) 1 a, ne-eqb (r .number) 20 b) refl
 
-    name-falls : Faulty (columns textE text-laws s) (r .index) (r .number) (r .place) st → st .had ≤ limit
-        → Falls (runAt textE s) (λ st. st .had) (λ k st r. (r .number ≡ 2 → ⊥) → (r .number ≡ 3 → ⊥) → RunFault textE s (NameFault s) k st r) st r
+    as-bytes : (r .number ≡ 1 → ⊥) → (r .number ≡ 20 → ⊥) → (r .number ≡ 5 → ⊥) → r .facts ≡ bytes (numberBytes 0 (drop (r .place) s))
+    as-bytes a b c = plainly a b ∙ rw (ne-eqb (r .number) 5 c) refl
+
+    -- a number that is refused: where its bytes end within it, neither reader reads it
+    says : (r .number ≡ 1 → u64At s (r .place) ≡ bad (r .number) (r .place)) → {n : ℕ} → Broken s (r .number) (r .place) n
+        → r .facts ≡ bytes (numberBytes 0 (drop (r .place) s))
+    says h (Broken.cut e x y z w) = by-name (inl e) ∙ ap (named s (r .place)) (h e)
+    says h (Broken.none e x y) = as-bytes (λ i. omega arith) (λ i. omega arith) (λ i. omega arith)
+    says h (Broken.whole (inl e) x y z w v) = as-bytes (λ i. omega arith) (λ i. omega arith) (λ i. omega arith)
+    says h (Broken.whole (inr e) x y z w v) = as-bytes (λ i. omega arith) (λ i. omega arith) (λ i. omega arith)
+
+    name-falls : Faulty (columns textE text-laws s) (r .index) (r .number) (r .place) st → st .had ≤ limit → ColumnFalls textE s (NameFault s) st r
     name-falls y l =
         record {
           falls = y .0;
           index = y .1;
           fault =
-              λ a b.
-              run-fault textE text-laws s (NameFault s) st r l (λ e. f ∙ rw (eq-eqb (r .number) 5 e) refl)
-              (λ e. says (both-end s (r .place) (r .number) (r .place) a b e)) says (name-fault s r says (λ w. by-name (not-five w))) (y .0);
+              run-fault textE text-laws s (NameFault s) st r l (λ e. plainly (λ i. omega arith) (λ i. omega arith) ∙ rw (eq-eqb (r .number) 5 e) refl)
+              (λ e b. says (λ i. both-end s (r .place) (r .number) (r .place) (λ j. omega arith) (λ j. omega arith) e) b)
+              (λ e b. says (λ i. e) b) (name-fault s r (λ e b. says (λ i. e) b) by-name) (y .0);
         }
-      where
-        not-five : (r .number ≡ 1) ⊎ (r .number ≡ 20) → r .number ≡ 5 → ⊥
-        not-five (inl e) g = omega arith
-        not-five (inr e) g = omega arith
 
   pub text-true : Explained (trace textE s) (textReason s) (TextTrue s)
   unfolding textReason

@@ -4,7 +4,7 @@
 use Prim.Native.Nat.{ℕ, suc, _+_, _-_}
 use mathlib.Core.List.{List, [], _∷_}
 use mathlib.Core.Option.{Option, none, some}
-use mathlib.Core.Bool.{Bool, true, false, cond}
+use mathlib.Core.Bool.{Bool, true, false, cond, _||_}
 use lib.Dec.{ltb, eqb}
 use lib.IntN.{ℤ, pos, negsuc}
 use lib.ListN.{length, drop}
@@ -127,8 +127,9 @@ spotsOf E s = runs (runAt E s) (length s) (spot 0 0)
 abbrev pub plainFacts : List ℕ → ℕ → ℕ → Spot → Facts
 plainFacts s number place st = cond (eqb number 5) (passes (st .had) (asked s (i64At s (st .at)))) (bytes (numberBytes 0 (drop place s)))
 
+-- only 1 and 20 can be a name's: a run's first number that is 2 or 3 as a signed one may read as an unsigned one
 abbrev pub nameFacts : List ℕ → ℕ → ℕ → Spot → Facts
-nameFacts s number place st = cond (eqb number 5) (passes (st .had) (asked s (i64At s (st .at)))) (named s place (u64At s place))
+nameFacts s number place st = cond (eqb number 1 || eqb number 20) (named s place (u64At s place)) (plainFacts s number place st)
 
 abbrev pub sumFacts : List ℕ → ℕ → ℕ → Spot → Facts
 sumFacts s number place st = cond (eqb number 6) (sum (lastSum (pos 0) (deltaTrace s .readings)) (delta (i64At s place))) (plainFacts s number place st)

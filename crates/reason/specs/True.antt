@@ -123,11 +123,8 @@ pub data NameFault (s : List ℕ) (r : Reason) : Type 0 where
   characters : {n q m : ℕ} → r .number ≡ 20 → r .facts ≡ name n m → u64At s (r .place) ≡ got n q → q + m ≡ length s → n ≤ m → isUtf8 (bytesAt s q n) ≡ false
       → NameFault s r
 
--- what is at fault is said where it is neither 2 nor 3
 abbrev pub TextTrue : List ℕ → Reason → Type 0
-TextTrue s =
-    ColumnTrue textE s (trace textE s)
-    (Falls (runAt textE s) (λ st. st .had) (λ k st r. (r .number ≡ 2 → ⊥) → (r .number ≡ 3 → ⊥) → RunFault textE s (NameFault s) k st r))
+TextTrue s = ColumnTrue textE s (trace textE s) (ColumnFalls textE s (NameFault s))
 
 -- "for 6, the sum before and the delta": the run at a state holds the delta at the place, at the index named; the last sum before it and the delta are held by an i64 each (where
 -- the column's bytes are bytes), and together they are not
