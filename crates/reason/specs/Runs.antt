@@ -2,7 +2,6 @@
 -- kind of reading and any state between runs; put together again they are the trace that everything else uses.
 use Prim.Native.Nat.{ℕ, zero, suc}
 use mathlib.Core.List.{List, [], _∷_}
-use mathlib.Core.Option.{Option, none, some}
 use Rattle.encoding.specs.Walk.{Run, Next, over, on, off, Trace, sound, fault, before}
 
 -- a run, and the state before it: for a column that ends soundly, the last one is the end itself, which has no readings
@@ -33,16 +32,7 @@ unfoldable pub flat : {R S : Type 0} → List (Walked R S) → Trace R
 flat [] = record { readings = []; ending = sound }
 flat (w ∷ ws) = before (w .run .readings) (ended (w .run .next) (flat ws))
 
--- the run at fault, with its index, counting from i
+-- the run at fault, with its index
 pub record Fallen (R S : Type 0) : Type 0 where
   pub index : ℕ
   pub at : Walked R S
-
-abbrev pub fallsAt : {R S : Type 0} → ℕ → Walked R S → Next S → Option (Fallen R S) → Option (Fallen R S)
-fallsAt i w over rest = rest
-fallsAt i w (on z) rest = rest
-fallsAt i w (off number place) rest = some (record { index = i; at = w })
-
-unfoldable pub fallen : {R S : Type 0} → ℕ → List (Walked R S) → Option (Fallen R S)
-fallen i [] = none
-fallen i (w ∷ ws) = let rest = fallen (suc i) ws in fallsAt i w (w .run .next) rest
