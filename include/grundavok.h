@@ -1,4 +1,4 @@
-/* The column encodings of Automerge documents, proved: numbers, specifications, columns, salvage, tables and edits.
+/* The column encodings of Automerge documents, proved: numbers, specifications, columns, salvage, tables, reasons and edits.
  *
  * Link libcapi.a, which `rt staticlib capi` writes (x86-64 Linux). The functions call nothing but memcpy and memset, allocate nothing,
  * keep nothing and share nothing: any two may run at once on different buffers.
@@ -122,6 +122,55 @@ typedef struct {
     uint64_t kept;      /* 24 */
     size_t written;     /* 32 */
 } grundavok_salvaged;
+
+/* Why a table or a column is refused. 96 bytes. number and place are the call's own refusal; fault and fault_place the table's or the column's, 0
+ * and 0 where nothing is wrong. `about` says what the reason speaks of, and with it which of the numbers apply:
+ *   GRUNDAVOK_TABLE  the table as a whole, no row of it
+ *   GRUNDAVOK_ROW    the row `which` of the table
+ *   GRUNDAVOK_RUN    the run `which` of the column, counted from 0, runs that add nothing too: it begins at the byte `begins`, all runs before it read
+ *                    without fault, and the reading at fault has the index `index` (of a bad count: the readings before it)
+ * and 0 where there is no reason. `sign` says whether a count was read at `begins`: GRUNDAVOK_PLUS, `count` itself; GRUNDAVOK_MINUS, its negative;
+ * 0, none. `facts` says which facts make the refusal true:
+ *   GRUNDAVOK_BYTES       1, 2, 3, 21   first: how many bytes of the number at the fault's place are there
+ *   GRUNDAVOK_NAME        1, 20         first: a name's length; second: how many bytes are there for it
+ *   GRUNDAVOK_PASSES      5             first: the readings before the run; second: how many its count asks for
+ *   GRUNDAVOK_SUM         6             sum: the sum before; delta: the delta, which leaves int64_t with it
+ *   GRUNDAVOK_COLUMNS     11            first: the table's count
+ *   GRUNDAVOK_FALLS       12            first: the specification before the row; second: the row's
+ *   GRUNDAVOK_COMPRESSED  13            first: the row's specification
+ *   GRUNDAVOK_LENGTHS     14, 15        first, second: what the lengths add up to, first * 2^64 + second; third: the bytes of data there are
+ * What does not apply is 0. */
+enum { GRUNDAVOK_TABLE = 1, GRUNDAVOK_ROW = 2, GRUNDAVOK_RUN = 3 };
+enum { GRUNDAVOK_PLUS = 1, GRUNDAVOK_MINUS = 2 };
+enum {
+    GRUNDAVOK_BYTES = 1,
+    GRUNDAVOK_NAME = 2,
+    GRUNDAVOK_PASSES = 3,
+    GRUNDAVOK_SUM = 4,
+    GRUNDAVOK_COLUMNS = 5,
+    GRUNDAVOK_FALLS = 6,
+    GRUNDAVOK_COMPRESSED = 7,
+    GRUNDAVOK_LENGTHS = 8
+};
+
+typedef struct {
+    uint8_t number;     /* 0 */
+    uint8_t fault;      /* 1 */
+    uint8_t about;      /* 2 */
+    uint8_t sign;       /* 3 */
+    uint8_t facts;      /* 4 */
+    size_t place;       /* 8 */
+    size_t fault_place; /* 16 */
+    uint64_t which;     /* 24 */
+    size_t begins;      /* 32 */
+    uint64_t count;     /* 40 */
+    uint64_t index;     /* 48 */
+    uint64_t first;     /* 56 */
+    uint64_t second;    /* 64 */
+    uint64_t third;     /* 72 */
+    int64_t sum;        /* 80 */
+    int64_t delta;      /* 88 */
+} grundavok_reason;
 
 /* What comes next in a column that is read by a cursor. 24 bytes each. `what` is GRUNDAVOK_PRESENT, and value the reading's; or
  * GRUNDAVOK_ABSENT or GRUNDAVOK_END, and value is 0. In a refusal it is 0, as all else: a refusal is never the end. */
@@ -394,6 +443,18 @@ grundavok_part grundavok_locate_spec(const uint8_t *block, size_t block_len, uin
 /* A new block in which the column at a position is to have `size` bytes, but for that column: the new table, the earlier columns, `size`
  * bytes left as they were from `at` on, the later columns. Refusals: table faults, 16, 10; out is then unchanged. */
 grundavok_frame grundavok_put_frame(const uint8_t *block, size_t block_len, size_t position, size_t size, uint8_t *out, size_t out_len);
+
+/* ---- Reasons: which row or which run is at fault, and the facts that make the refusal true ---- */
+
+/* Of a table's fault, the refusal of grundavok_read_table. No refusal. */
+grundavok_reason grundavok_table_reason(const uint8_t *block, size_t block_len);
+
+/* Of a column's first fault, the refusal of its count. `typ` is the column's type, as grundavok_spec_col_type gives it. Refusal: 17 for a type
+ * that no call serves. */
+grundavok_reason grundavok_column_reason(uint8_t typ, const uint8_t *s, size_t s_len);
+
+/* Of the table's fault or, where it has none, of the fault of the column at a position, whose places count from its first byte. Refusals: 16, 17. */
+grundavok_reason grundavok_block_reason(const uint8_t *block, size_t block_len, size_t position);
 
 /* ---- Edits ---- */
 

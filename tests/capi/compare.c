@@ -83,6 +83,14 @@ void salvaged_is(int line, const char *call, grundavok_salvaged r, uint8_t numbe
     told(line, call, r.kept == kept && r.written == written);
 }
 
+void reason_is(int line, const char *call, grundavok_reason a, grundavok_reason b) {
+    calls++;
+    told(line, call, a.number == b.number && a.place == b.place && a.fault == b.fault && a.fault_place == b.fault_place);
+    told(line, call, a.about == b.about && a.which == b.which && a.begins == b.begins && a.index == b.index);
+    told(line, call, a.sign == b.sign && a.count == b.count && a.facts == b.facts);
+    told(line, call, a.first == b.first && a.second == b.second && a.third == b.third && a.sum == b.sum && a.delta == b.delta);
+}
+
 void spec_is(int line, const char *call, grundavok_specification r, uint8_t number, size_t place, uint32_t spec) {
     calls++;
     told(line, call, r.number == number && r.place == place && r.spec == spec);
@@ -136,6 +144,7 @@ int main(void) {
     cursors();
     texts();
     salvages();
+    reasons();
     tables();
     edits();
     printf("capi: %d calls compared, %d differences\n", calls, differences);

@@ -7,6 +7,8 @@
 //!
 //! A column that was cut is refused by the calls that read all of it; `salvage` of each kind keeps what stands before the fault ([`salvage`]).
 //!
+//! [`reason`] says why: which row or which run, and the facts.
+//!
 //! Names ([`text`]) are parts of the bytes that they were found in, since one that repeats stands there once.
 
 pub mod boolean;
@@ -18,6 +20,7 @@ mod lists;
 pub mod raw;
 pub mod raw_column;
 mod readings;
+pub mod reason;
 pub mod rle;
 pub mod salvage;
 pub mod splice;

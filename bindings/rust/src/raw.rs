@@ -34,6 +34,43 @@ pub struct Salvaged {
     pub written: usize,
 }
 
+/// Why a table or a column is refused: the header says which numbers apply under which `about`, `sign` and `facts`.
+#[repr(C)]
+pub struct Reason {
+    pub number: u8,
+    pub fault: u8,
+    pub about: u8,
+    pub sign: u8,
+    pub facts: u8,
+    pub place: usize,
+    pub fault_place: usize,
+    pub which: u64,
+    pub begins: usize,
+    pub count: u64,
+    pub index: u64,
+    pub first: u64,
+    pub second: u64,
+    pub third: u64,
+    pub sum: i64,
+    pub delta: i64,
+}
+
+pub const TABLE: u8 = 1;
+pub const ROW: u8 = 2;
+pub const RUN: u8 = 3;
+
+pub const PLUS: u8 = 1;
+pub const MINUS: u8 = 2;
+
+pub const BYTES: u8 = 1;
+pub const NAME: u8 = 2;
+pub const PASSES: u8 = 3;
+pub const SUM: u8 = 4;
+pub const COLUMNS: u8 = 5;
+pub const FALLS: u8 = 6;
+pub const COMPRESSED: u8 = 7;
+pub const LENGTHS: u8 = 8;
+
 /// What comes next in a column: `what` is `PRESENT`, `ABSENT` or `END`, and 0 in a refusal.
 #[repr(C)]
 pub struct Next<T> {
@@ -286,6 +323,10 @@ extern "C" {
     pub fn grundavok_locate(block: *const u8, block_len: usize, position: usize) -> Part;
     pub fn grundavok_locate_spec(block: *const u8, block_len: usize, spec: u32) -> Part;
     pub fn grundavok_put_frame(block: *const u8, block_len: usize, position: usize, size: usize, out: *mut u8, out_len: usize) -> Frame;
+
+    pub fn grundavok_table_reason(block: *const u8, block_len: usize) -> Reason;
+    pub fn grundavok_column_reason(typ: u8, s: *const u8, s_len: usize) -> Reason;
+    pub fn grundavok_block_reason(block: *const u8, block_len: usize, position: usize) -> Reason;
 
     pub fn grundavok_splice_integer(
         block: *const u8,

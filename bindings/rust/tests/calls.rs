@@ -12,6 +12,7 @@ fn calls() {
 mod calls {
     use grundavok::column_specification::{ColumnSpec, ColumnType};
     use grundavok::raw_column::{Frame, Row};
+    use grundavok::reason::{self, About, Facts, Reason};
     use grundavok::salvage::{Salvaged, Survey};
     use grundavok::{boolean, delta, leb128, raw_column, rle, splice, text, Refusal};
 
@@ -368,6 +369,62 @@ mod calls {
         assert_eq!(
             splice::splice_boolean_to_end(&[0x01, 0x14, 0x03, 0x00, 0x01, 0x02], 0, 4, &[], MOST),
             refused(18, 0)
+        );
+    }
+
+    fn run(number: u8, place: usize, run: u64, begins: usize, count: Option<i128>, index: u64, facts: Facts) -> Reason {
+        Reason {
+            fault: Refusal { number, place },
+            about: About::Run { run, begins, count, index },
+            facts,
+        }
+    }
+
+    #[test]
+    fn reasons() {
+        let sums = [0x02, 0x80, 0x80, 0x80, 0x80, 0x80, 0x80, 0x80, 0x80, 0xc0, 0x00];
+        let sum = Facts::Sum {
+            sum: 1 << 62,
+            delta: 1 << 62,
+        };
+        let of = reason::of_column;
+        assert_eq!(
+            of(ColumnType::Integer, &[0x02]),
+            Ok(Some(run(21, 1, 0, 0, Some(2), 0, Facts::Bytes(0))))
+        );
+        assert_eq!(
+            of(ColumnType::Actor, &[0x00, 0x00, 0x80]),
+            Ok(Some(run(1, 2, 1, 2, None, 0, Facts::Bytes(1))))
+        );
+        assert_eq!(of(ColumnType::DeltaInteger, &sums), Ok(Some(run(6, 1, 0, 0, Some(2), 1, sum))));
+        let name = Facts::Name { length: 2, there: 1 };
+        assert_eq!(
+            of(ColumnType::String, &[0x7f, 0x02, 0x61]),
+            Ok(Some(run(1, 1, 0, 0, Some(-1), 0, name)))
+        );
+        assert_eq!(of(ColumnType::Boolean, &[0x01]), Ok(None));
+        assert_eq!(of(ColumnType::Group, &[0x02]), Err(Refusal { number: 17, place: 0 }));
+        let cut = reason::of_table(&DEPTHS[..7]).unwrap();
+        assert_eq!(
+            cut,
+            Reason {
+                fault: Refusal { number: 14, place: 0 },
+                about: About::Table,
+                facts: Facts::Lengths { total: 5, data: 4 }
+            }
+        );
+        assert_eq!(
+            cut.to_string(),
+            "refusal 14 at 0: the table: its lengths add up to 5 bytes, and there are 4"
+        );
+        assert_eq!(reason::of_table(&DEPTHS), None);
+        assert_eq!(reason::of_block(&DEPTHS, 0), Ok(None));
+        assert_eq!(reason::of_block(&DEPTHS, 1), Err(Refusal { number: 16, place: 0 }));
+        assert_eq!(reason::of_block(&DEPTHS[..7], 0), Ok(Some(cut)));
+        let twelve = of(ColumnType::Integer, &[0x7e, 0x05]).unwrap().unwrap();
+        assert_eq!(
+            twelve.to_string(),
+            "refusal 21 at 2: run 0, which begins at byte 0 with the count -2, at reading 1: the bytes end where a number is due"
         );
     }
 }

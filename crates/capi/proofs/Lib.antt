@@ -1,3 +1,4 @@
--- What follows from the contracts.
+-- What follows from the contracts, and laws of the forms.
 pub mod Nth
 pub mod One
+pub mod Telling

@@ -1,3 +1,4 @@
 pub mod Cases
 pub mod Cursors
+pub mod Reasons
 pub mod Told

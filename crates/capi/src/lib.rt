@@ -6,6 +6,7 @@ mod cursors;
 mod edits;
 mod edits_to_end;
 mod numbers;
+mod reasons;
 mod salvages;
 mod specifications;
 mod tables;
@@ -62,6 +63,34 @@ pub struct Salvaged {
     pub fault_place: usize,
     pub kept: u64,
     pub written: usize,
+}
+
+// Why a table or a column was refused. `number` and `place` are the call's own refusal, as everywhere; `fault` and `fault_place` are the table's or the column's, 0 and
+// 0 where nothing is wrong. `about` is 0 where there is no reason, 1 for one of the table that names no row, 2 for one of the table's row `which`, and 3 for one of the
+// column's run `which`, which begins at `begins` and has the reading `index` at fault. `sign` is 0 where no count was read at `begins`, 1 for the count itself and
+// 2 for its negative. `facts` says which facts there are: 1 how many bytes of the number at the place are there (`first`); 2 a name's length and how many bytes are there
+// for it (`first`, `second`); 3 the readings before the run and how many its count asks for (`first`, `second`); 4 the sum before and the delta (`sum`, `delta`); 5
+// the table's count (`first`); 6 the specification before and the one that falls (`first`, `second`); 7 the specification with bit 3 set (`first`); 8 what the lengths
+// add up to, its high and low 64 bits, and how many bytes of data there are (`first`, `second`, `third`). What does not apply is 0 under a `facts`, `sign` or `about`
+// that says so.
+#[repr(C)]
+pub struct Reason {
+    pub number: u8,
+    pub fault: u8,
+    pub about: u8,
+    pub sign: u8,
+    pub facts: u8,
+    pub place: usize,
+    pub fault_place: usize,
+    pub which: u64,
+    pub begins: usize,
+    pub count: u64,
+    pub index: u64,
+    pub first: u64,
+    pub second: u64,
+    pub third: u64,
+    pub sum: i64,
+    pub delta: i64,
 }
 
 // What comes next in a column that is read a reading at a time: `what` is 1 for a present reading, which has a value, 2 for an absent one and

@@ -3,6 +3,7 @@ pub mod DifferenceLaws
 pub mod Faults
 pub mod Held
 pub mod Kept
+pub mod LastSum
 pub mod Limits
 pub mod Readings
 pub mod Summing

@@ -67,11 +67,14 @@ repeated-unread n had c q number place g e = sym (ap length (readings-eq (summin
 
 -- ---- literal differences
 
+pub literal-readings : (n : ℕ) (s : List ℕ) (t u c q : ℕ) → summing n (literals i64E s t c q) .readings ≡ summing n (literals i64E s u c q) .readings
+literal-readings n s t u c q =
+    sum-readings n (literals i64E s t c q .readings) (literals i64E s t c q .next) (literals i64E s u c q .next)
+    ∙ ap (λ (rs : List (Reading ℤ)). sumRun n rs (literals i64E s u c q .next) .readings) (literals-total i64E s t c q ∙ sym (literals-total i64E s u c q))
+
 pub literal-length : (n : ℕ) (s : List ℕ) (t u c q : ℕ)
     → length (summing n (literals i64E s t c q) .readings) ≡ length (summing n (literals i64E s u c q) .readings)
-literal-length n s t u c q =
-    ap length (sum-readings n (literals i64E s t c q .readings) (literals i64E s t c q .next) (literals i64E s u c q .next))
-    ∙ ap (λ (rs : List (Reading ℤ)). length (sumRun n rs (literals i64E s u c q .next) .readings)) (literals-total i64E s t c q ∙ sym (literals-total i64E s u c q))
+literal-length n s t u c q = ap length (literal-readings n s t u c q)
 
 -- a loop over literals: of `all` sums that are held so many were counted, and those of the literals from q on are left
 abbrev pub Counted : List ℕ → ℕ → ℕ → ℕ → ℕ → ℕ → Type 0

@@ -28,3 +28,9 @@ addUp z (present d place ∷ rs) e = added place (heldSum z d) (λ y. addUp y rs
 
 unfoldable pub deltaTrace : List ℕ → Trace (Reading ℤ)
 deltaTrace s = addUp (pos 0) (trace i64E s .readings) (trace i64E s .ending)
+
+-- 02, [3]: "for 6, the sum before": the sum that readings lead to from z on
+abbrev pub lastSum : ℤ → List (Reading ℤ) → ℤ
+lastSum z [] = z
+lastSum z (absent ∷ rs) = lastSum z rs
+lastSum z (present a place ∷ rs) = lastSum a rs

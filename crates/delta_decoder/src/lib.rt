@@ -1,6 +1,7 @@
 // Reading a delta column, optional i64 as the run-length column of their differences (the decoder behind the crate's
 // columnar/column_range/delta.rs): its readings counted in one pass over its bytes, whatever the counts say, or decoded into lent slots.
 ghost use mathlib.Core.Path.{_≡_};
+ghost use mathlib.Core.Option.{some};
 ghost use Prim.Native.Nat.{_+_, _≤_, _<_};
 ghost use lib.IntN.{pos};
 ghost use lib.ListN.{length, replicate};
@@ -15,8 +16,8 @@ ghost use Rattle.encoding.specs.Survivors.{surveyOf, surviving};
 ghost use Rattle.encoding.specs.Walk.{outcome};
 ghost use Rattle.delta_decoder.specs.Cases.{stepOf};
 ghost use Rattle.delta_decoder.specs.Difference.{i64E};
-ghost use Rattle.delta_decoder.specs.Sofar.{sofar, summing, deltaRun};
-ghost use Rattle.delta_decoder.specs.Sums.{deltaTrace};
+ghost use Rattle.delta_decoder.specs.Sofar.{sumOf, plusTimes, timesHeld, sofar, summing, deltaRun};
+ghost use Rattle.delta_decoder.specs.Sums.{deltaTrace, lastSum};
 
 pub mod sums;
 
@@ -175,6 +176,81 @@ pub fn count(s: &[u8]) -> Answer
         return Answer::Done(found.readings);
     }
     Answer::Refused(found.number, found.place)
+}
+
+// The sum behind c literal differences from q on, on the sum `sum`, up to the first that cannot be read or added.
+fn literals_sum(s: &[u8], q: usize, c: u64, sum: u64) -> u64
+    ensures { λ r. ⌜ sumOf r ≡ lastSum (sumOf sum) (summing sum (literals i64E (now (s .entry)) 0 c q) .readings) ⌝ }
+{
+    let mut at = q;
+    let mut left = c;
+    let mut n = sum;
+    while 0 < left {
+        match leb128::leb128_i64(s, at) {
+            ParsedI64::Number(d, next) => match add(n, d) {
+                Sum::Is(m) => {
+                    at = next;
+                    left -= 1;
+                    n = m;
+                }
+                Sum::Outside => {
+                    return n;
+                }
+            },
+            ParsedI64::Refused(_, _) => {
+                return n;
+            }
+        }
+    }
+    n
+}
+
+// The sum behind as many of c times a difference as can be added to the sum n.
+fn repeat_sum(n: u64, d: i64, c: u64) -> u64
+    ensures { λ r. ⌜ plusTimes n d (timesHeld n d c) ≡ some r ⌝ }
+{
+    match add_times(n, d, times_held(n, d, c)) {
+        Sum::Is(m) => m,
+        Sum::Outside => n,
+    }
+}
+
+// The sum behind the readings of the run at `at` that stand before its fault, on the sum n.
+fn run_sum(s: &[u8], at: usize, had: u64, n: u64) -> u64
+    requires { ⌜ at < length (now s) ⌝ }
+    ensures { λ r. ⌜ sumOf r ≡ lastSum (sumOf n) (deltaRun (now (s .entry)) (sofar at had n) .readings) ⌝ }
+{
+    match run_head::head_at(s, at, had) {
+        Head::Repeat(c, q) => match leb128::leb128_i64(s, q) {
+            ParsedI64::Number(d, _) => repeat_sum(n, d, c),
+            ParsedI64::Refused(_, _) => n,
+        },
+        Head::Literal(c, q) => literals_sum(s, q, c, n),
+        Head::Absent(_, _) => n,
+        Head::Refused(_, _) => n,
+    }
+}
+
+// The sum behind the readings before a column's first fault.
+pub fn last_sum(s: &[u8]) -> i64
+    ensures { λ r. ⌜ r ≡ lastSum (pos 0) (deltaTrace (now (s .entry)) .readings) ⌝ }
+{
+    let mut at: usize = 0;
+    let mut had: u64 = 0;
+    let mut n: u64 = HALF;
+    while at < s.len() {
+        match scan_run(s, at, had, n) {
+            Step::On(next, h, m) => {
+                at = next;
+                had = h;
+                n = m;
+            }
+            Step::Off(_, _) => {
+                return sum_of(run_sum(s, at, had, n));
+            }
+        }
+    }
+    sum_of(n)
 }
 
 // c absent readings in the slots from `from` on.

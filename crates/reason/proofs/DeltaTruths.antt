@@ -20,8 +20,8 @@ use Rattle.encoding.proofs.Columns.{columns}
 use Rattle.text.proofs.Placed.{Each, trace-each}
 use Rattle.delta_decoder.specs.Difference.{i64E, holds}
 use Rattle.delta_decoder.proofs.DifferenceLaws.{i64-laws}
-use Rattle.delta_decoder.specs.Sums.{heldSum, front, added, addUp, deltaTrace}
-use Rattle.reason.specs.Reason.{sum, Reason, signedCount, holding, told, lastSum, delta, plainFacts, spotsOf, sumFacts, deltaReason}
+use Rattle.delta_decoder.specs.Sums.{heldSum, front, added, addUp, deltaTrace, lastSum}
+use Rattle.reason.specs.Reason.{sum, Reason, signedCount, holding, told, delta, plainFacts, spotsOf, sumFacts, deltaReason}
 use Rattle.reason.specs.True.{Explained, Unread, RunFault, ColumnFalls, Leaves, DeltaTrue}
 use Rattle.reason.proofs.Named.{Names, Faulty, Having, having}
 use Rattle.reason.proofs.RunFaults.{i64-unread}

@@ -10,12 +10,12 @@ use lib.IntN.{ℤ, pos, negsuc}
 use lib.ListN.{length, drop}
 use Rattle.leb128.specs.Got.{Got, got, bad}
 use Rattle.leb128.specs.Read.{u64At, i64At}
-use Rattle.encoding.specs.Column.{Reading, absent, present, Spot, spot, runAt, trace}
+use Rattle.encoding.specs.Column.{Reading, Spot, spot, runAt, trace}
 use Rattle.encoding.specs.Element.{Element}
 use Rattle.encoding.specs.Walk.{Next, over, on, off, Ending, sound, fault}
 use Rattle.rle_decoder.specs.Word.{u64E}
 use Rattle.delta_decoder.specs.Difference.{i64E}
-use Rattle.delta_decoder.specs.Sums.{deltaTrace}
+use Rattle.delta_decoder.specs.Sums.{deltaTrace, lastSum}
 use Rattle.boolean_decoder.specs.Turns.{Turn, turn, turnAt, boolTrace}
 use Rattle.text.specs.Text.{textE}
 use Rattle.reason.specs.Runs.{Walked, runs, Fallen}
@@ -90,11 +90,6 @@ holding {R} {S} had i k (w ∷ ws) =
 abbrev pub named : List ℕ → ℕ → Got ℕ → Facts
 named s place (got n q) = name n (length s - q)
 named s place (bad number p) = bytes (numberBytes 0 (drop place s))
-
-abbrev pub lastSum : ℤ → List (Reading ℤ) → ℤ
-lastSum z [] = z
-lastSum z (absent ∷ rs) = lastSum z rs
-lastSum z (present a place ∷ rs) = lastSum a rs
 
 abbrev pub delta : Got ℤ → ℤ
 delta (got d next) = d

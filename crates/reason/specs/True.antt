@@ -19,12 +19,12 @@ use Rattle.encoding.specs.Walk.{Run, on, off, Trace}
 use Rattle.encoding.specs.Walk as walk
 use Rattle.rle_decoder.specs.Word.{u64E}
 use Rattle.delta_decoder.specs.Difference.{i64E, holds}
-use Rattle.delta_decoder.specs.Sums.{deltaTrace}
+use Rattle.delta_decoder.specs.Sums.{deltaTrace, lastSum}
 use Rattle.boolean_decoder.specs.Turns.{Turn, turn, turnAt, boolTrace}
 use Rattle.utf8.specs.Utf8.{isUtf8}
 use Rattle.text.specs.Text.{bytesAt, textE}
 use Rattle.reason.specs.Columns.{Told, because, faultless, refused}
-use Rattle.reason.specs.Reason.{Count, bytes, name, passes, sum, Reason, signedCount, unsignedCount, lastSum}
+use Rattle.reason.specs.Reason.{Count, bytes, name, passes, sum, Reason, signedCount, unsignedCount}
 
 -- THE REASONS OF A COLUMN that reads as t: each that is given is true, as `Is` says; a fault has one, and a sound column has none
 pub record Explained {Q : Type 0} (t : Trace Q) (given : Option Reason) (Is : Reason → Type 0) : Type 0 where

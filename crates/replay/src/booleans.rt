@@ -51,11 +51,8 @@ fn count(line: &[u8], c: Cursor, bytes: &mut [u8]) -> Verdict {
         return Verdict::Malformed;
     }
     let n = s.value as usize;
-    columns::judged(
-        line,
-        rest,
-        boolean_decoder::count(words::between(bytes, 0, n)),
-    )
+    let column = words::between(bytes, 0, n);
+    columns::counted(line, rest, 4, column, boolean_decoder::count(column))
 }
 
 // BYTES VALUES = NUMBER PLACE COUNT VALUES-AFTER

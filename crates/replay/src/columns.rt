@@ -6,6 +6,7 @@ use crate::fields::Cursor;
 use crate::fields::Verdict;
 use crate::fields::is_known;
 use crate::integers;
+use crate::reasons;
 use crate::rooms;
 use crate::walks;
 use encoding::Answer;
@@ -108,6 +109,14 @@ pub fn expect(line: &[u8], c: Cursor, answer: Answer) -> Cursor {
 // The verdict on a record that has no further answers.
 pub fn judged(line: &[u8], c: Cursor, answer: Answer) -> Verdict {
     fields::judged(line, expect(line, c, answer))
+}
+
+// The verdict on a record of a count, beside which the column's reason is asked for.
+pub fn counted(line: &[u8], c: Cursor, typ: u8, s: &[u8], answer: Answer) -> Verdict {
+    if reasons::agrees(typ, s, answer) {
+        return judged(line, c, answer);
+    }
+    Verdict::Differs
 }
 
 // NUMBER PLACE LENGTH OUT-AFTER

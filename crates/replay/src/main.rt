@@ -19,6 +19,7 @@ mod name_edits;
 mod name_salvages;
 mod names;
 mod numbers;
+mod reasons;
 mod rooms;
 mod salvages;
 mod signed;
@@ -75,6 +76,10 @@ fn run(name: &[u8], line: &[u8], c: Cursor) -> Verdict {
         return v;
     }
     let v = salvages::run(name, line, c);
+    if is_known(v) {
+        return v;
+    }
+    let v = reasons::run(name, line, c);
     if is_known(v) {
         return v;
     }

@@ -45,11 +45,8 @@ fn count(line: &[u8], c: Cursor) -> Verdict {
         return Verdict::Malformed;
     }
     let n = s.value as usize;
-    columns::judged(
-        line,
-        rest,
-        text_decoder::count(words::between(&bytes, 0, n)),
-    )
+    let column = words::between(&bytes, 0, n);
+    columns::counted(line, rest, 5, column, text_decoder::count(column))
 }
 
 // BYTES or NAMES; then with little room for the list, and where the line is then no record, with much.

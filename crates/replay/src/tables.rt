@@ -4,6 +4,7 @@ use crate::fields;
 use crate::fields::Cursor;
 use crate::fields::Verdict;
 use crate::lists;
+use crate::reasons;
 use crate::words;
 use block_frame::Frame;
 use column_part::Part;
@@ -36,14 +37,15 @@ fn read_table(line: &[u8], c: Cursor) -> Verdict {
         return Verdict::Malformed;
     }
     let n = b.value as usize;
-    opened(
-        line,
-        rest,
-        raw_column::read_table(words::between(&block, 0, n)),
-    )
+    let bytes = words::between(&block, 0, n);
+    opened(line, rest, bytes, raw_column::read_table(bytes))
 }
 
-fn opened(line: &[u8], c: Cursor, o: Opened) -> Verdict {
+// The table's reason is asked for beside it.
+fn opened(line: &[u8], c: Cursor, block: &[u8], o: Opened) -> Verdict {
+    if !reasons::agrees_table(block, o) {
+        return Verdict::Differs;
+    }
     let at_start = fields::expect_refusal(line, c, o.number, o.place);
     let at_specs = fields::expect_number(line, at_start, o.start as u64);
     let table = o.table;

@@ -8,13 +8,14 @@ use crate::read;
 use crate::salvaging;
 use crate::show;
 use crate::sound;
+use crate::why;
 use crate::words;
 
 // Runs a command, and answers whether all went well.
 pub fn run(line: &[u8], desk: Desk) -> bool {
     let name = words::word(line, 0);
     match words::index(
-        b"show\0read\0draw\0check\0edit\0make\0salvage\0help\0--help\0-h\0",
+        b"show\0read\0draw\0check\0edit\0make\0salvage\0why\0help\0--help\0-h\0",
         name,
     ) {
         0 => show::run(line, desk),
@@ -24,7 +25,8 @@ pub fn run(line: &[u8], desk: Desk) -> bool {
         4 => edit::run(line, desk),
         5 => make::run(line, desk),
         6 => salvaging::run(line, desk),
-        7 | 8 | 9 => help::run(desk),
+        7 => why::run(line, desk),
+        8 | 9 | 10 => help::run(desk),
         _ => help::unknown(name, desk),
     }
 }

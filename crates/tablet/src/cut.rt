@@ -21,6 +21,11 @@ fn find(block: &[u8], n: usize) -> usize {
     i
 }
 
+// The column in which the data end.
+pub fn broken(block: &[u8]) -> Piece {
+    rows::piece_at(block, find(block, rows::count(block)))
+}
+
 // What is known of a block that ends too early.
 pub fn explain(p: Pen, block: &[u8]) -> Pen {
     let position = find(block, rows::count(block));

@@ -16,6 +16,8 @@ fn say_looking(p: Pen) -> Pen {
                                the readings as a picture: in the terminal, or as a file for a browser; names are not drawn;
                                of a broken column what survived, with a crack where it breaks
   tablet check FILE..          one line a file: sound, or the first refusal of each column
+  tablet why FILE [COLUMN]     why a block, or its column at a position, is refused: which row or which run is at fault, the
+                               facts that make it so, and the bytes around the place, the number at fault in brackets
 ",
     )
 }

@@ -4,6 +4,8 @@
 // ./tablet makes one of that.
 mod announced;
 mod apply;
+mod around;
+mod because;
 mod column;
 mod commands;
 mod cut;
@@ -35,6 +37,7 @@ mod sound;
 mod svg;
 mod terminal;
 mod walk;
+mod why;
 mod words;
 
 use pen::Desk;

@@ -65,6 +65,14 @@ pub fn of_names(part: &[u8], number: u8, place: usize) -> u8 {
     }
 }
 
+// The same where it is known whether a name is at fault.
+pub fn cut_name(number: u8, name: bool) -> u8 {
+    if number != 1 {
+        return number;
+    }
+    if name { CUT_NAME } else { 1 }
+}
+
 // A refusal in words, with its place and its number.
 pub fn say(p: Pen, number: u8, place: usize) -> Pen {
     say_place(say_words(p, number), number, place)

@@ -1,0 +1,4 @@
+pub mod Counts
+pub mod Seeking
+pub mod Telling
+pub mod Types
