@@ -197,6 +197,34 @@ typedef struct {
     uint8_t value;  /* 16 */
 } grundavok_next_u8;
 
+/* A piece of such a column: what comes next, as above, and how many times it stands there at once, one at least; times is 0 where there is no
+ * reading, in the end and in a refusal. 32 bytes, and 40 of a delta column, whose readings change within a piece: each is by `difference` larger
+ * than the one before it, and value is the first; of absent readings difference is 0. */
+typedef struct {
+    uint8_t number; /* 0 */
+    uint8_t what;   /* 1 */
+    size_t place;   /* 8 */
+    uint64_t value; /* 16 */
+    uint64_t times; /* 24 */
+} grundavok_piece_u64;
+
+typedef struct {
+    uint8_t number;     /* 0 */
+    uint8_t what;       /* 1 */
+    size_t place;       /* 8 */
+    int64_t value;      /* 16 */
+    int64_t difference; /* 24 */
+    uint64_t times;     /* 32 */
+} grundavok_piece_i64;
+
+typedef struct {
+    uint8_t number; /* 0 */
+    uint8_t what;   /* 1 */
+    size_t place;   /* 8 */
+    uint8_t value;  /* 16 */
+    uint64_t times; /* 24 */
+} grundavok_piece_u8;
+
 /* A specification. 24 bytes. */
 typedef struct {
     uint8_t number; /* 0 */
@@ -344,6 +372,22 @@ grundavok_boolean_cursor grundavok_boolean_cursor_new(const uint8_t *column, siz
 grundavok_next_u64 grundavok_rle_next(const uint8_t *column, size_t column_len, grundavok_rle_cursor *cursor);
 grundavok_next_i64 grundavok_delta_next(const uint8_t *column, size_t column_len, grundavok_delta_cursor *cursor);
 grundavok_next_u8 grundavok_boolean_next(const uint8_t *column, size_t column_len, grundavok_boolean_cursor *cursor);
+
+/* As many readings as stand there at once: those that are left of a run in which all are the same, of a delta column those of one difference, or
+ * one literal value; the cursor is advanced past all of them. The caller counts them down by itself, so that inside a run it calls nothing:
+ *
+ *     for (;;) {
+ *         grundavok_piece_i64 p = grundavok_delta_piece(column, len, &cursor);
+ *         if (p.times == 0) break; // p.what is GRUNDAVOK_END, or it is a refusal
+ *         for (see(p.what, p.value); --p.times > 0; see(p.what, p.value)) p.value += p.difference;
+ *     }
+ *
+ * (Behind the last reading of a piece one more sum may leave int64_t: none is formed here.) The readings of the pieces in order are those of `next`,
+ * and so are the end and the refusals, 24 too; a sum that leaves int64_t inside a run is refused at the call behind the readings that come before
+ * it. A call costs the bytes that it passes, whatever the counts say. Both kinds of call may be made by turns with one cursor. */
+grundavok_piece_u64 grundavok_rle_piece(const uint8_t *column, size_t column_len, grundavok_rle_cursor *cursor);
+grundavok_piece_i64 grundavok_delta_piece(const uint8_t *column, size_t column_len, grundavok_delta_cursor *cursor);
+grundavok_piece_u8 grundavok_boolean_piece(const uint8_t *column, size_t column_len, grundavok_boolean_cursor *cursor);
 
 /* How many bytes the list takes as a column. Refusals, in this order: 8, 5; of delta 7 too. */
 grundavok_counted grundavok_rle_encoded_len(const uint64_t *values, size_t values_len, const uint8_t *present, size_t present_len);

@@ -93,7 +93,7 @@ fn columns(rows: &mut Rows, shape: &str, n: usize) {
     let unsigned: Vec<Option<u64>> = signed.iter().map(|x| x.map(|v| (v + 1_000_000_000) as u64)).collect();
     let flags: Vec<bool> = signed.iter().map(|x| x.is_some_and(|v| v / 4 % 2 == 0)).collect();
     macro_rules! optional {
-        ($kind:ident, $list:expr, $decode:path, $encode:path, $walk:path) => {
+        ($kind:ident, $list:expr, $decode:path, $encode:path, $walk:path, $readings:path) => {
             let bytes = $kind::encode(&$list);
             let (v, p) = slots(&$list);
             let mut out = vec![0u8; bytes.len()];
@@ -125,10 +125,31 @@ fn columns(rows: &mut Rows, shape: &str, n: usize) {
                 |seen| $walk(black_box(&bytes), |reading| seen.reading(reading.map(|v| v as u64))),
                 |seen| $kind::iter(black_box(&bytes)).for_each(|reading| seen.reading(reading.map(|v| v as u64))),
             );
+            walks(
+                rows,
+                &name("iterator"),
+                n,
+                |seen| $readings(black_box(&bytes)).for_each(|reading| seen.reading(reading.unwrap().map(|v| v as u64))),
+                |seen| $kind::iter(black_box(&bytes)).for_each(|reading| seen.reading(reading.map(|v| v as u64))),
+            );
         };
     }
-    optional!(rle, unsigned, ours::rle_decode, ours::rle_encode, ours::rle_walk);
-    optional!(delta, signed, ours::delta_decode, ours::delta_encode, ours::delta_walk);
+    optional!(
+        rle,
+        unsigned,
+        ours::rle_decode,
+        ours::rle_encode,
+        ours::rle_walk,
+        grundavok::rle::readings
+    );
+    optional!(
+        delta,
+        signed,
+        ours::delta_decode,
+        ours::delta_encode,
+        ours::delta_walk,
+        grundavok::delta::readings
+    );
     let bytes = boolean::encode(&flags);
     let given: Vec<u8> = flags.iter().map(|&b| u8::from(b)).collect();
     let mut out = vec![0u8; bytes.len()];
@@ -159,6 +180,13 @@ fn columns(rows: &mut Rows, shape: &str, n: usize) {
         |seen| ours::boolean_walk(black_box(&bytes), |value| seen.reading(value.map(u64::from))),
         |seen| boolean::iter(black_box(&bytes)).for_each(|value| seen.reading(Some(u64::from(value)))),
     );
+    walks(
+        rows,
+        &name("iterator"),
+        n,
+        |seen| grundavok::boolean::readings(black_box(&bytes)).for_each(|value| seen.reading(Some(u64::from(value.unwrap())))),
+        |seen| boolean::iter(black_box(&bytes)).for_each(|value| seen.reading(Some(u64::from(value)))),
+    );
 }
 
 /// What was seen of readings that came one by one, so that each is looked at.
@@ -177,7 +205,7 @@ impl Seen {
     }
 }
 
-/// A column walked a reading at a time to its end, by our cursor and by the crate's iterator.
+/// A column walked a reading at a time to its end, by our cursor or our iterator and by the crate's iterator.
 fn walks(rows: &mut Rows, name: &str, n: usize, ours: impl Fn(&mut Seen), rust: impl Fn(&mut Seen)) {
     let seen = |walk: &dyn Fn(&mut Seen)| {
         let mut seen = Seen::default();

@@ -11,7 +11,7 @@ pub fn leb128_i64(s: &[u8], at: usize) -> Number<i64> {
     raw_call!(grundavok_leb128_i64, [s], (at), [], [])
 }
 
-/// A column's readings one by one to its end: `see` is handed each, `None` where it is absent.
+/// A column's readings one by one to its end, each by a call over the boundary: `see` is handed each, `None` where it is absent.
 macro_rules! walk {
     ($walk:ident, $c_new:ident, $c_next:ident, $t:ty) => {
         pub fn $walk(s: &[u8], mut see: impl FnMut(Option<$t>)) {

@@ -51,6 +51,23 @@ void next_u8_is(int line, const char *call, grundavok_next_u8 r, uint8_t number,
     told(line, call, r.number == number && r.place == place && r.what == what && r.value == value);
 }
 
+void piece_u64_is(int line, const char *call, grundavok_piece_u64 r, uint8_t number, size_t place, uint8_t what, uint64_t value, uint64_t times) {
+    calls++;
+    told(line, call, r.number == number && r.place == place && r.what == what && r.value == value && r.times == times);
+}
+
+void piece_i64_is(int line, const char *call, grundavok_piece_i64 r, uint8_t number, size_t place, uint8_t what, int64_t value, int64_t difference,
+                  uint64_t times) {
+    calls++;
+    told(line, call, r.number == number && r.place == place && r.what == what);
+    told(line, call, r.value == value && r.difference == difference && r.times == times);
+}
+
+void piece_u8_is(int line, const char *call, grundavok_piece_u8 r, uint8_t number, size_t place, uint8_t what, uint8_t value, uint64_t times) {
+    calls++;
+    told(line, call, r.number == number && r.place == place && r.what == what && r.value == value && r.times == times);
+}
+
 /* All numbers of a cursor. */
 void rle_cursor_is(int line, const char *what, grundavok_rle_cursor a, grundavok_rle_cursor b) {
     told(line, what, a.len == b.len && a.at == b.at && a.had == b.had && a.left == b.left);
@@ -142,6 +159,7 @@ int main(void) {
     specifications();
     columns();
     cursors();
+    pieces();
     texts();
     salvages();
     reasons();

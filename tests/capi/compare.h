@@ -17,6 +17,10 @@ void u32_is(int line, const char *call, grundavok_number_u32 r, uint8_t number, 
 void next_u64_is(int line, const char *call, grundavok_next_u64 r, uint8_t number, size_t place, uint8_t what, uint64_t value);
 void next_i64_is(int line, const char *call, grundavok_next_i64 r, uint8_t number, size_t place, uint8_t what, int64_t value);
 void next_u8_is(int line, const char *call, grundavok_next_u8 r, uint8_t number, size_t place, uint8_t what, uint8_t value);
+void piece_u64_is(int line, const char *call, grundavok_piece_u64 r, uint8_t number, size_t place, uint8_t what, uint64_t value, uint64_t times);
+void piece_i64_is(int line, const char *call, grundavok_piece_i64 r, uint8_t number, size_t place, uint8_t what, int64_t value, int64_t difference,
+                  uint64_t times);
+void piece_u8_is(int line, const char *call, grundavok_piece_u8 r, uint8_t number, size_t place, uint8_t what, uint8_t value, uint64_t times);
 void rle_cursor_is(int line, const char *what, grundavok_rle_cursor is, grundavok_rle_cursor wanted);
 void delta_cursor_is(int line, const char *what, grundavok_delta_cursor is, grundavok_delta_cursor wanted);
 void boolean_cursor_is(int line, const char *what, grundavok_boolean_cursor is, grundavok_boolean_cursor wanted);
@@ -39,6 +43,9 @@ void left_is(int line, const char *what, const void *is, const void *wanted, siz
 #define NEXT_U64(call, ...) next_u64_is(__LINE__, #call, call, __VA_ARGS__)
 #define NEXT_I64(call, ...) next_i64_is(__LINE__, #call, call, __VA_ARGS__)
 #define NEXT_U8(call, ...) next_u8_is(__LINE__, #call, call, __VA_ARGS__)
+#define PIECE_U64(call, ...) piece_u64_is(__LINE__, #call, call, __VA_ARGS__)
+#define PIECE_I64(call, ...) piece_i64_is(__LINE__, #call, call, __VA_ARGS__)
+#define PIECE_U8(call, ...) piece_u8_is(__LINE__, #call, call, __VA_ARGS__)
 #define RLE_CURSOR(k, ...) rle_cursor_is(__LINE__, #k, k, (grundavok_rle_cursor){__VA_ARGS__})
 #define DELTA_CURSOR(k, ...) delta_cursor_is(__LINE__, #k, k, (grundavok_delta_cursor){__VA_ARGS__})
 #define BOOLEAN_CURSOR(k, ...) boolean_cursor_is(__LINE__, #k, k, (grundavok_boolean_cursor){__VA_ARGS__})
@@ -66,6 +73,7 @@ void numbers(void);
 void specifications(void);
 void columns(void);
 void cursors(void);
+void pieces(void);
 void texts(void);
 void salvages(void);
 void reasons(void);

@@ -1,13 +1,14 @@
 //! Yes/no columns, and the all-false form.
 
+use crate::readings::Counted;
 use crate::{judged, lists, raw, Refusal};
 
 crate::readings::readings!(
     bool,
     BooleanCursor,
     grundavok_boolean_cursor_new,
-    grundavok_boolean_next,
-    |_, value| value != 0
+    raw::Piece<u8>,
+    grundavok_boolean_piece
 );
 
 crate::salvage::salvage!(

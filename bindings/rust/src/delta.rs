@@ -8,7 +8,8 @@ crate::rle::optional_column!(
     grundavok_delta_encode,
     DeltaCursor,
     grundavok_delta_cursor_new,
-    grundavok_delta_next,
+    raw::PieceI64,
+    grundavok_delta_piece,
     grundavok_delta_survey,
     grundavok_delta_salvage,
     DeltaInteger

@@ -1,7 +1,5 @@
 //! Lists of readings as the slices that the boundary takes, and back.
 
-use crate::raw::PRESENT;
-
 /// The values, 0 for an absent reading, and the presence bytes.
 pub fn apart<T: Copy + Default>(list: &[Option<T>]) -> (Vec<T>, Vec<u8>) {
     let values = list.iter().map(|reading| reading.unwrap_or_default()).collect();
@@ -13,11 +11,6 @@ pub fn apart<T: Copy + Default>(list: &[Option<T>]) -> (Vec<T>, Vec<u8>) {
 pub fn together<T: Copy>(values: &[T], present: &[u8]) -> Vec<Option<T>> {
     let pairs = values.iter().zip(present);
     pairs.map(|(&value, &flag)| (flag != 0).then_some(value)).collect()
-}
-
-/// The reading of an answer that is one.
-pub fn reading<T>(what: u8, value: T) -> Option<T> {
-    (what == PRESENT).then_some(value)
 }
 
 pub fn bytes(list: &[bool]) -> Vec<u8> {

@@ -84,6 +84,29 @@ pub const PRESENT: u8 = 1;
 pub const ABSENT: u8 = 2;
 pub const END: u8 = 3;
 
+/// A piece of a column: what comes next, and how many times it stands there at once, which is 0 where there is no reading.
+#[repr(C)]
+#[derive(Clone, Copy, Debug, Default, PartialEq, Eq)]
+pub struct Piece<T> {
+    pub number: u8,
+    pub what: u8,
+    pub place: usize,
+    pub value: T,
+    pub times: u64,
+}
+
+/// A piece of a delta column: each reading is by `difference` larger than the one before it.
+#[repr(C)]
+#[derive(Clone, Copy, Debug, Default, PartialEq, Eq)]
+pub struct PieceI64 {
+    pub number: u8,
+    pub what: u8,
+    pub place: usize,
+    pub value: i64,
+    pub difference: i64,
+    pub times: u64,
+}
+
 #[repr(C)]
 pub struct Specification {
     pub number: u8,
@@ -213,6 +236,9 @@ extern "C" {
     pub fn grundavok_rle_next(column: *const u8, column_len: usize, cursor: *mut RleCursor) -> Next<u64>;
     pub fn grundavok_delta_next(column: *const u8, column_len: usize, cursor: *mut DeltaCursor) -> Next<i64>;
     pub fn grundavok_boolean_next(column: *const u8, column_len: usize, cursor: *mut BooleanCursor) -> Next<u8>;
+    pub fn grundavok_rle_piece(column: *const u8, column_len: usize, cursor: *mut RleCursor) -> Piece<u64>;
+    pub fn grundavok_delta_piece(column: *const u8, column_len: usize, cursor: *mut DeltaCursor) -> PieceI64;
+    pub fn grundavok_boolean_piece(column: *const u8, column_len: usize, cursor: *mut BooleanCursor) -> Piece<u8>;
     pub fn grundavok_rle_encoded_len(values: *const u64, values_len: usize, present: *const u8, present_len: usize) -> Counted;
     pub fn grundavok_delta_encoded_len(values: *const i64, values_len: usize, present: *const u8, present_len: usize) -> Counted;
     pub fn grundavok_boolean_encoded_len(values: *const u8, values_len: usize) -> Counted;

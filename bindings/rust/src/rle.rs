@@ -3,12 +3,13 @@
 /// The calls over a column of optional readings; `delta` has the same over i64.
 macro_rules! optional_column {
     (
-        $element:ty, $count:ident, $decode:ident, $encoded_len:ident, $encode:ident, $cursor:ident, $new:ident, $next:ident,
-        $survey:ident, $salvage:ident, $typ:ident
+        $element:ty, $count:ident, $decode:ident, $encoded_len:ident, $encode:ident, $cursor:ident, $new:ident, $piece:ty,
+        $next_piece:ident, $survey:ident, $salvage:ident, $typ:ident
     ) => {
+        use crate::readings::Counted;
         use crate::{judged, lists, raw, Refusal};
 
-        crate::readings::readings!(Option<$element>, $cursor, $new, $next, lists::reading);
+        crate::readings::readings!(Option<$element>, $cursor, $new, $piece, $next_piece);
 
         crate::salvage::salvage!(
             salvage,
@@ -74,7 +75,8 @@ optional_column!(
     grundavok_rle_encode,
     RleCursor,
     grundavok_rle_cursor_new,
-    grundavok_rle_next,
+    raw::Piece<u64>,
+    grundavok_rle_piece,
     grundavok_rle_survey,
     grundavok_rle_salvage,
     Integer

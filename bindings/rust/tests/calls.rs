@@ -176,6 +176,30 @@ mod calls {
         assert_eq!(whole(rle::readings(&[0x7d, 0x01, 0x02])), refused(21, 3));
     }
 
+    /// The boundary hands out pieces; the iterator counts their readings down.
+    #[test]
+    fn readings_of_long_runs() {
+        let mut falling = delta::readings(&[0x03, 0x7e, 0x00, 0x02, 0x7f, 0x01]);
+        assert_eq!((falling.next(), falling.read()), (Some(Ok(Some(-2))), Some(Ok(Some(-4)))));
+        let inside = falling.clone();
+        assert_eq!(whole(falling), Ok(vec![Some(-6), None, None, Some(-5)]));
+        assert_eq!(whole(inside), Ok(vec![Some(-6), None, None, Some(-5)]));
+        let rising = delta::readings(&[0x05, 0x80, 0x80, 0x80, 0x80, 0x80, 0x80, 0x80, 0x80, 0x20]);
+        let sums = [Ok(Some(1 << 61)), Ok(Some(2 << 61)), Ok(Some(3 << 61)), refused(6, 1)];
+        assert_eq!(rising.collect::<Vec<_>>(), sums);
+        assert_eq!(rle::readings(&FIVES).skip(1_000_000).next(), Some(Ok(Some(5))));
+        assert_eq!(
+            whole(boolean::readings(&[0x02, 0x03, 0x01])),
+            Ok(vec![false, false, true, true, true, false])
+        );
+        let mut cut = boolean::readings(&[0x02, 0x80]);
+        assert_eq!(
+            (cut.next(), cut.next(), cut.next(), cut.next()),
+            (Some(Ok(false)), Some(Ok(false)), Some(refused(1, 1)), None)
+        );
+        assert_eq!(cut.read(), Some(refused(1, 1)));
+    }
+
     #[test]
     fn readings_of_a_cut_column() {
         let cut = rle::readings(&[0x7d, 0x01, 0x02]);

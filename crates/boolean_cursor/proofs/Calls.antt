@@ -24,7 +24,7 @@ use Rattle.boolean_cursor.proofs.TurnCursors.{says-turns, turn-within, 
 
 module _ (s : List ℕ) where
   -- a state that keeps a cursor within the column passes the check, and its step is the cursor's
-  step-kept : (c : TurnCursor) → c .at ≤ length s → stepOf s (kept (length s) c) ≡ told (kept (length s) c) (turnStep s c)
+  pub step-kept : (c : TurnCursor) → c .at ≤ length s → stepOf s (kept (length s) c) ≡ told (kept (length s) c) (turnStep s c)
   unfolding stepOf
   step-kept c l = ap (told (kept (length s) c)) (checked-passes (length s) (c .at) s (turnStep s c) refl l)
 

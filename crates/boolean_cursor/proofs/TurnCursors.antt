@@ -8,14 +8,16 @@ use mathlib.Core.Bool.{Bool, true, false, cond}
 use native.Mathlib.Omega.{arith}
 use lib.ListN.{length, replicate}
 use lib.Dec.{ltb, leb}
-use borrow.Author.Tests.{lt-ltb, le-ltb, le-leb, lt-leb}
+use borrow.Author.Tests.{leb-true, lt-ltb, le-ltb, le-leb, lt-leb}
 use Rattle.leb128.specs.Got.{Got, got, bad}
 use Rattle.leb128.specs.Read.{u64At}
 use Rattle.encoding.specs.Limit.{limit}
 use Rattle.encoding.specs.Walk.{Trace, Run, Next, over, on, off, whole, cut, stop, before, onward, after}
+use Rattle.encoding.proofs.Lists.{cond-by}
 use Rattle.encoding.proofs.Walking.{next-eq}
 use Rattle.cursor.specs.Steps.{gives, calls, said, nth, onto, ready, drawn}
-use Rattle.cursor.proofs.Stepping.{follows, only, Draws, says, Entering, Holds, keeps, ready-some, ready-none, draws}
+use Rattle.cursor.proofs.Stepping.{follows, only, Draws, says, Entering, Holds, keeps, ready-some, ready-none, draws, ready-has}
+use Rattle.cursor.proofs.Pieces.{Gives}
 use Rattle.cursor.proofs.Agreeing.{Agree, agree-on, u64-reads, drawn-alike}
 use Rattle.boolean_decoder.specs.Turns.{Turn, turn, counted, turnAt, turnsFrom, boolTrace}
 use Rattle.boolean_decoder.proofs.Turning.{turned, turns-on}
@@ -123,6 +125,44 @@ module _ (s : List ℕ) where
   unfolding turnStep turnReady oneTurn
   turn-within c w =
       keeps entering oneTurn (λ d. d .at ≤ length s) (λ d. d .at ≤ length s) (λ x y p h. enter-beyond (x .at) (x .had) (x .flag) y h .1) (λ x p l. p) c w
+
+  -- ---- the reading of a step and the count behind it
+
+  -- a count that is entered stays within the limit
+  abbrev Within : Next TurnCursor → Type 0
+  Within over = Unit {0}
+  Within (on d) = d .left ≤ limit
+  Within (off number place) = Unit {0}
+
+  enter-within : (at had flag : ℕ) (d : TurnCursor) → enterTurn s at had flag ≡ on d → d .left ≤ limit
+  unfolding enterTurn counting
+  enter-within at had flag d e = subst Within e (cond-by Within (ltb at (length s)) (λ t. read (u64At s at)) (λ t. tt))
+    where
+      read : (g : Got ℕ) → Within (counting at had flag g)
+      read (got n next) = cond-by Within (leb (had + n) limit) (λ t. let l = leb-true (had + n) limit t in omega arith) (λ t. tt)
+      read (bad number place) = tt
+
+  -- inside a count
+  pub turn-same : (at had left flag : ℕ) → 0 < left → turnStep s (turning at had left flag) ≡ gives (byteOf flag) (turning at had (left - 1) flag)
+  unfolding turnStep turnReady oneTurn
+  turn-same at had left flag l = ap (drawn oneTurn) (ready-some entering (turning at had left flag) l)
+
+  -- behind a step that gives r: within the column; fewer than b are left, where no more were and no count has more; and each is r
+  abbrev pub TurnGiven : ℕ → ℕ → TurnCursor → Type 0
+  TurnGiven b r d = (d .at ≤ length s) × (d .left < b) × (byteOf (d .flag) ≡ r)
+
+  pub turn-given : (b : ℕ) (c : TurnCursor) → limit ≤ b → c .at ≤ length s → c .left ≤ b → Gives (TurnGiven b) (turnStep s c)
+  unfolding turnStep turnReady oneTurn
+  turn-given b c m w l = go (turnReady s c) refl
+    where
+      go : (x : Next TurnCursor) → turnReady s c ≡ x → Gives (TurnGiven b) (drawn oneTurn x)
+      go over e = tt
+      go (on d) e =
+          let h = ready-has entering (λ x. (x .at ≤ length s) × (x .left ≤ b))
+          (λ x y p h. (enter-beyond (x .at) (x .had) (x .flag) y h .1, omega (arith, enter-within (x .at) (x .had) (x .flag) y h))) c d (w, l) e in
+          let p = h .0 in
+          (p .0, omega (arith, p .1, h .1), refl)
+      go (off number place) e = tt
 
   -- ---- the step as code takes it: the present count, where some of it is left; else the next one, and what is ready from there
 

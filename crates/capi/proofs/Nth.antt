@@ -1,15 +1,16 @@
 -- THE THEOREMS of [5] at the boundary: from a new cursor the n-th answer, by the contract of the call over and over, is the form of what the trace of
 -- the column has to say: its readings in order, then the end, however often asked, or the refusal of the whole-column call, again at every later
--- call. Assumes nothing.
-use Prim.Native.Nat.{ℕ}
+-- call. And the readings of the pieces in order are the same, and so is their ending. Assumes nothing.
+use Prim.Native.Nat.{ℕ, _+_, _≤_, _<_}
 use mathlib.Core.Path.{_≡_, ap}
 use mathlib.Core.List.{List}
+use lib.IntN.{pos}
 use lib.ListN.{length}
 use Rattle.encoding.specs.Column.{trace}
 use Rattle.rle_decoder.specs.Word.{u64E}
 use Rattle.delta_decoder.specs.Sums.{deltaTrace}
 use Rattle.boolean_decoder.specs.Turns.{boolTrace}
-use Rattle.cursor.specs.Steps.{nth}
+use Rattle.cursor.specs.Steps.{ended, nth}
 use Rattle.cursor.specs.Kept.{after}
 use Rattle.rle_cursor.specs.State as rle
 use Rattle.rle_cursor.proofs.Calls as rle-calls
@@ -17,7 +18,12 @@ use Rattle.delta_cursor.specs.State as delta
 use Rattle.delta_cursor.proofs.Calls as delta-calls
 use Rattle.boolean_cursor.specs.State as boolean
 use Rattle.boolean_cursor.proofs.Calls as boolean-calls
+use Rattle.pieces.specs.Delta.{readingAt}
+use Rattle.pieces.proofs.RlePieces as rle-pieces
+use Rattle.pieces.proofs.DeltaPieces as delta-pieces
+use Rattle.pieces.proofs.BooleanPieces as boolean-pieces
 use Rattle.capi.specs.Cursors.{nextU64, nextI64, nextU8, rleStep, deltaStep, booleanStep}
+use Rattle.capi.specs.Pieces.{timesU64, pieceU64, pieceI64, timesU8, pieceU8, rlePiece, deltaPiece, booleanPiece}
 
 pub rle-nth : (s : List ℕ) (n : ℕ)
     → rleStep s (after (λ k. rleStep s k .cursor) n (rle.newFor (length s))) .answer ≡ nextU64 (rle.answerFor (nth (trace u64E s) n))
@@ -30,3 +36,34 @@ delta-nth s n = ap nextI64 (delta-calls.nth-answer s n)
 pub boolean-nth : (s : List ℕ) (n : ℕ)
     → booleanStep s (after (λ k. booleanStep s k .cursor) n (boolean.newFor (length s))) .answer ≡ nextU8 (boolean.answerFor (nth (boolTrace s) n))
 boolean-nth s n = ap nextU8 (boolean-calls.nth-answer s n)
+
+-- ---- pieces: the i-th reading of the piece with n pieces before it, which have so many readings; then the ending
+
+pub rle-piece-nth : (s : List ℕ) (n i : ℕ) → i < rle-pieces.pieceAt s n .times
+    → rlePiece s (after (λ k. rlePiece s k .cursor) n (rle.newFor (length s))) .piece
+    ≡ timesU64 (nextU64 (rle.answerFor (nth (trace u64E s) (rle-pieces.hadBefore s n + i)))) (rle-pieces.pieceAt s n .times)
+rle-piece-nth s n i l = ap (λ a. timesU64 (nextU64 a) (rle-pieces.pieceAt s n .times)) (rle-pieces.nth-reading s n i l)
+
+pub rle-piece-end : (s : List ℕ) (n : ℕ) → length (trace u64E s .readings) ≤ n
+    → rlePiece s (after (λ k. rlePiece s k .cursor) n (rle.newFor (length s))) .piece ≡ timesU64 (nextU64 (rle.answerFor (ended (trace u64E s .ending)))) 0
+rle-piece-end s n l = ap pieceU64 (rle-pieces.then-ending s n l)
+
+-- of a delta piece the first reading and i times the difference, in the form of a single answer
+pub delta-piece-nth : (s : List ℕ) (n i : ℕ) → i < delta-pieces.pieceAt s n .times
+    → nextI64 (readingAt (delta-pieces.pieceAt s n) i) ≡ nextI64 (delta.answerFor (nth (deltaTrace s) (delta-pieces.hadBefore s n + i)))
+delta-piece-nth s n i l = ap nextI64 (delta-pieces.nth-reading s n i l)
+
+pub delta-piece-end : (s : List ℕ) (n : ℕ) → length (deltaTrace s .readings) ≤ n
+    → deltaPiece s (after (λ k. deltaPiece s k .cursor) n (delta.newFor (length s))) .piece
+    ≡ pieceI64 (record { answer = delta.answerFor (ended (deltaTrace s .ending)); difference = pos 0; times = 0 })
+delta-piece-end s n l = ap pieceI64 (delta-pieces.then-ending s n l)
+
+pub boolean-piece-nth : (s : List ℕ) (n i : ℕ) → i < boolean-pieces.pieceAt s n .times
+    → booleanPiece s (after (λ k. booleanPiece s k .cursor) n (boolean.newFor (length s))) .piece
+    ≡ timesU8 (nextU8 (boolean.answerFor (nth (boolTrace s) (boolean-pieces.hadBefore s n + i)))) (boolean-pieces.pieceAt s n .times)
+boolean-piece-nth s n i l = ap (λ a. timesU8 (nextU8 a) (boolean-pieces.pieceAt s n .times)) (boolean-pieces.nth-reading s n i l)
+
+pub boolean-piece-end : (s : List ℕ) (n : ℕ) → length (boolTrace s .readings) ≤ n
+    → booleanPiece s (after (λ k. booleanPiece s k .cursor) n (boolean.newFor (length s))) .piece
+    ≡ timesU8 (nextU8 (boolean.answerFor (ended (boolTrace s .ending)))) 0
+boolean-piece-end s n l = ap pieceU8 (boolean-pieces.then-ending s n l)

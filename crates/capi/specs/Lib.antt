@@ -1,4 +1,5 @@
 pub mod Cases
 pub mod Cursors
+pub mod Pieces
 pub mod Reasons
 pub mod Told

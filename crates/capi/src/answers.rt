@@ -8,6 +8,7 @@ ghost use Rattle.encoding.specs.Cases.{answerOf};
 ghost use Rattle.salvage.specs.Salvage.{outcomeOf};
 ghost use Rattle.capi.specs.Cases.{numberU64, numberI64, numberU32, counted, surveyAs, salvagedAs, specification, tableAs, openedAs, partAs, frameAs, splicedAs};
 ghost use Rattle.capi.specs.Cursors.{nextU64, nextI64, nextU8};
+ghost use Rattle.capi.specs.Pieces.{pieceU64, pieceI64, pieceU8};
 use crate::Counted;
 use crate::Frame;
 use crate::NextI64;
@@ -18,6 +19,9 @@ use crate::NumberU32;
 use crate::NumberU64;
 use crate::Opened;
 use crate::Part;
+use crate::PieceI64;
+use crate::PieceU8;
+use crate::PieceU64;
 use crate::Salvaged;
 use crate::Specification;
 use crate::Spliced;
@@ -31,6 +35,9 @@ use leb128::ParsedI64;
 use leb128::ParsedU32;
 use leb128::ParsedU64;
 use leb128_writer::Written;
+use pieces::boolean::BooleanPiece;
+use pieces::delta::DeltaPiece;
+use pieces::rle::RlePiece;
 use rle_cursor::RleAnswer;
 
 // What comes next in a column; NOTHING in a refusal.
@@ -221,6 +228,49 @@ pub(crate) fn next_u8(a: BooleanAnswer) -> NextU8
             place: place,
             value: 0,
         },
+    }
+}
+
+pub(crate) fn piece_u64(p: RlePiece) -> PieceU64
+    ensures { λ r. ⌜ r ≡ pieceU64 p ⌝ }
+{
+    let a = p.answer;
+    let n = next_u64(a);
+    PieceU64 {
+        number: n.number,
+        what: n.what,
+        place: n.place,
+        value: n.value,
+        times: p.times,
+    }
+}
+
+pub(crate) fn piece_i64(p: DeltaPiece) -> PieceI64
+    ensures { λ r. ⌜ r ≡ pieceI64 p ⌝ }
+{
+    let a = p.answer;
+    let n = next_i64(a);
+    PieceI64 {
+        number: n.number,
+        what: n.what,
+        place: n.place,
+        value: n.value,
+        difference: p.difference,
+        times: p.times,
+    }
+}
+
+pub(crate) fn piece_u8(p: BooleanPiece) -> PieceU8
+    ensures { λ r. ⌜ r ≡ pieceU8 p ⌝ }
+{
+    let a = p.answer;
+    let n = next_u8(a);
+    PieceU8 {
+        number: n.number,
+        what: n.what,
+        place: n.place,
+        value: n.value,
+        times: p.times,
     }
 }
 

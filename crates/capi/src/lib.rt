@@ -2,6 +2,7 @@
 // and a length. Thin: every function calls one of the library and passes its answer on. include/grundavok.h says the same in C.
 mod answers;
 mod columns;
+mod cursor_pieces;
 mod cursors;
 mod edits;
 mod edits_to_end;
@@ -117,6 +118,36 @@ pub struct NextU8 {
     pub what: u8,
     pub place: usize,
     pub value: u8,
+}
+
+// A piece of such a column: what comes next as above, and how many times it stands there at once, one at least; 0 for the end and a refusal.
+#[repr(C)]
+pub struct PieceU64 {
+    pub number: u8,
+    pub what: u8,
+    pub place: usize,
+    pub value: u64,
+    pub times: u64,
+}
+
+// The readings of a delta column's piece: the first, and by how much each one behind it is larger.
+#[repr(C)]
+pub struct PieceI64 {
+    pub number: u8,
+    pub what: u8,
+    pub place: usize,
+    pub value: i64,
+    pub difference: i64,
+    pub times: u64,
+}
+
+#[repr(C)]
+pub struct PieceU8 {
+    pub number: u8,
+    pub what: u8,
+    pub place: usize,
+    pub value: u8,
+    pub times: u64,
 }
 
 #[repr(C)]

@@ -10,6 +10,7 @@ use lib.ListN.{length, replicate}
 use lib.Dec.{ltb}
 use borrow.Author.Tests.{lt-ltb, le-ltb}
 use Rattle.leb128.specs.Got.{Got, got, bad}
+use Rattle.encoding.specs.Limit.{limit}
 use Rattle.encoding.specs.Walk.{Trace, Run, Next, over, on, off, stop, cut, before, onward, after}
 use Rattle.encoding.specs.Element.{Element}
 use Rattle.encoding.specs.Head.{Head, amiss, headAt}
@@ -92,11 +93,11 @@ module _ {A : Type 0} (E : Element A) (s : List ℕ) where
       ap (λ (j : ℕ). coming E s (cursor at had j (same r))) e ∙ coming-take at had 1 (left - 1) r
   coming-one at had left literal l = coming-literal at had left l
 
--- ---- entering a run goes ahead, and stays within
+-- ---- entering a run goes ahead, and stays within; and its count stays within the limit
 
 abbrev Beyond : {A : Type 0} → ℕ → ℕ → Next (Cursor A) → Type 0
 Beyond len p over = Unit {0}
-Beyond len p (on d) = (p < d .at) × (d .at ≤ len)
+Beyond len p (on d) = (p < d .at) × (d .at ≤ len) × (d .left ≤ limit)
 Beyond len p (off number place) = Unit {0}
 
 module _ {A : Type 0} (E : Element A) (L : ElementLaws E) (s : List ℕ) where
@@ -105,13 +106,13 @@ module _ {A : Type 0} (E : Element A) (L : ElementLaws E) (s : List ℕ) where
   entered-beyond p n (Head.repeat c q) h = go (E .read s q) refl
     where
       go : (g : Got A) → E .read s q ≡ g → Beyond (length s) p (carried n c q g)
-      go (got a z) e = let l = L .ahead s q z a e in (omega (arith, h .0), L .within s q z a e)
+      go (got a z) e = let l = L .ahead s q z a e in (omega (arith, h .0), L .within s q z a e, omega (arith, h .2))
       go (bad number place) e = tt
-  entered-beyond p n (Head.literal c q) h = (h .0, h .1)
-  entered-beyond p n (Head.absent c q) h = (h .0, h .1)
+  entered-beyond p n (Head.literal c q) h = (h .0, h .1, omega (arith, h .2))
+  entered-beyond p n (Head.absent c q) h = (h .0, h .1, omega (arith, h .2))
   entered-beyond p n (amiss number place) h = tt
 
-  pub enter-beyond : (at had : ℕ) (d : Cursor A) → enter E s at had ≡ on d → (at < d .at) × (d .at ≤ length s)
+  pub enter-beyond : (at had : ℕ) (d : Cursor A) → enter E s at had ≡ on d → (at < d .at) × (d .at ≤ length s) × (d .left ≤ limit)
   unfolding enter
   enter-beyond at had d e =
       subst (Beyond (length s) at) e

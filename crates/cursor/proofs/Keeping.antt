@@ -6,7 +6,7 @@ use mathlib.Core.List.{List}
 use mathlib.Core.Bool.{Bool, true, false, cond, _&&_}
 use lib.ListN.{length}
 use lib.Dec.{eqb, leb}
-use borrow.Author.Tests.{eq-eqb, ne-eqb, le-leb, lt-leb}
+use borrow.Author.Tests.{eqb-true, eq-eqb, ne-eqb, leb-true, le-leb, lt-leb}
 use Rattle.encoding.specs.Walk.{fault}
 use Rattle.encoding.specs.Column.{absent, present}
 use Rattle.cursor.specs.Cursor.{same, literal}
@@ -32,6 +32,17 @@ module _ {R S : Type 0} (len at : ℕ) (s : List ℕ) (x : Stepped R S) where
       go : (b : Bool) → cond (b && false) x (ends (fault 24 0)) ≡ ends (fault 24 0)
       go true = refl
       go false = refl
+
+  -- what holds of the step where the check passes, and of the refusal, holds of the step that is checked
+  pub checked-by : (P : Stepped R S → Type 0) → (len ≡ length s → at ≤ length s → P x) → P (ends (fault 24 0)) → P (checked len at s x)
+  unfolding checked
+  checked-by P f g = go (eqb len (length s)) (leb at (length s)) refl refl
+    where
+      go : (a b : Bool) → eqb len (length s) ≡ a → leb at (length s) ≡ b → P (cond (a && b) x (ends (fault 24 0)))
+      go true true e l = f (eqb-true len (length s) e) (leb-true at (length s) l)
+      go true false e l = g
+      go false true e l = g
+      go false false e l = g
 
 -- ---- the sort of a run, by its number
 

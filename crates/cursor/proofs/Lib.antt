@@ -5,4 +5,5 @@ pub mod Keeping
 pub mod Pieces
 pub mod Saying
 pub mod Stepping
+pub mod Taking
 pub mod Thin

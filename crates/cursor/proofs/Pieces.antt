@@ -5,14 +5,17 @@ use mathlib.Core.Path.{_≡_, refl, _∙_, ap, subst}
 use mathlib.Core.List.{List}
 use native.Mathlib.Omega.{arith}
 use lib.ListN.{length, replicate}
+use Rattle.leb128.specs.Got.{Got, got, bad}
 use Rattle.encoding.specs.Element.{Element}
+use Rattle.encoding.specs.Limit.{limit}
+use Rattle.encoding.specs.Walk.{Next, over, on, off}
 use Rattle.encoding.specs.Column.{Reading}
 use Rattle.encoding.proofs.Elements.{ElementLaws}
-use Rattle.cursor.specs.Steps.{Stepped, ends, gives}
-use Rattle.cursor.specs.Cursor.{Sort, same, literal, Cursor, cursor, oneLiteral, readyAt, coming}
+use Rattle.cursor.specs.Steps.{Stepped, ends, gives, drawn}
+use Rattle.cursor.specs.Cursor.{Sort, same, literal, Cursor, cursor, oneLiteral, oneOf, one, readyAt, step, coming}
 use Rattle.cursor.specs.Pieces.{Piece, once, allOf, all, piece}
-use Rattle.cursor.proofs.Stepping.{follows, only, Draws, draws, Holds, holds-by, keeps}
-use Rattle.cursor.proofs.Cursors.{coming-take, coming-literal, coming-enters, entering, enter-beyond}
+use Rattle.cursor.proofs.Stepping.{follows, only, Draws, draws, Holds, holds-by, keeps, ready-has}
+use Rattle.cursor.proofs.Cursors.{coming-take, coming-literal, coming-enters, entering, enter-beyond, ready-left}
 use Rattle.cursor.proofs.Advances.{literal-beyond}
 
 -- the readings of a piece
@@ -34,6 +37,16 @@ some-left (suc k) l = refl
 
 unfoldable pub weight : {A : Type 0} → List ℕ → Cursor A → ℕ
 weight s c = (length s - c .at) + (length s - c .at) + someLeft (c .left)
+
+-- it holds of the reading and of the state behind it, where a step gives
+abbrev pub Gives : {R S : Type 0} → (R → S → Type 0) → Stepped R S → Type 0
+Gives Q (ends e) = Unit {0}
+Gives Q (gives r d) = Q r d
+
+-- what is left of a run in which all are the same is the reading r
+abbrev pub Again : {A : Type 0} → Reading A → Sort A → Type 0
+Again r (same q) = q ≡ r
+Again r literal = Unit {0}
 
 module _ {A : Type 0} (E : Element A) (L : ElementLaws E) (s : List ℕ) where
   coming-all : (at had left : ℕ) (x : Sort A) → 0 < left
@@ -77,3 +90,37 @@ module _ {A : Type 0} (E : Element A) (L : ElementLaws E) (s : List ℕ) where
       ones x p l literal =
           holds-once Q (oneLiteral x (E .read s (x .at)))
           (holds-by (λ d h. omega (arith, p, h .0, h .1, some-one (d .left))) (oneLiteral x (E .read s (x .at))) (literal-beyond E L s x))
+
+  -- ---- the reading of a step and the run behind it
+
+  -- inside a run in which all are the same
+  pub step-same : (at had left : ℕ) (r : Reading A) → 0 < left → step E s (cursor at had left (same r)) ≡ gives r (cursor at had (left - 1) (same r))
+  unfolding step oneOf
+  step-same at had left r l = ap (drawn (one E s)) (ready-left E L s (cursor at had left (same r)) l)
+
+  -- behind a step that gives r: within the column; fewer than b are left, where no more were and no run has more; and where all that are left
+  -- are the same, each is r
+  abbrev pub Given : ℕ → Reading A → Cursor A → Type 0
+  Given b r d = (d .at ≤ length s) × (d .left < b) × Again r (d .sort)
+
+  pub step-given : (b : ℕ) (c : Cursor A) → limit ≤ b → c .at ≤ length s → c .left ≤ b → Gives (Given b) (step E s c)
+  unfolding step readyAt oneOf oneLiteral
+  step-given b c m w l = go (readyAt E s c) refl
+    where
+      P : Cursor A → Type 0
+      P x = (x .at ≤ length s) × (x .left ≤ b)
+
+      ones : (d : Cursor A) (x : Sort A) → P d → 0 < d .left → Gives (Given b) (oneOf E s d x)
+      ones d (same r) p h = (p .0, omega (arith, p .1), refl)
+      ones d literal p h = read (E .read s (d .at)) refl
+        where
+          read : (g : Got A) → E .read s (d .at) ≡ g → Gives (Given b) (oneLiteral d g)
+          read (got a z) e = (L .within s (d .at) z a e, omega (arith, p .1), tt)
+          read (bad number place) e = tt
+
+      go : (x : Next (Cursor A)) → readyAt E s c ≡ x → Gives (Given b) (drawn (one E s) x)
+      go over e = tt
+      go (on d) e =
+          let h = ready-has (entering E L s) P (λ x y p h. let k = enter-beyond E L s (x .at) (x .had) y h in (k .1, omega (arith, k .2))) c d (w, l) e in
+          ones d (d .sort) (h .0) (h .1)
+      go (off number place) e = tt

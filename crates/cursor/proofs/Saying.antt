@@ -26,7 +26,17 @@ module _ {R : Type 0} where
   unfolding nth
   nth-reading t n d l = say-reading (t .readings) (t .ending) n d l
 
-  nth-ending : (t : Trace R) (n : ℕ) → length (t .readings) ≤ n → nth t n ≡ ended (t .ending)
+  -- what holds of every reading holds of what is said within them
+  pub nth-by : (t : Trace R) (P : Said R → Type 0) → ((r : R) → P (reading r)) → (n : ℕ) → n < length (t .readings) → P (nth t n)
+  unfolding nth sayAt
+  nth-by t P f n l = go (t .readings) n l
+    where
+      go : (rs : List R) (n : ℕ) → n < length rs → P (sayAt rs (t .ending) n)
+      go [] n l = absurd (omega arith)
+      go (r ∷ rs) zero l = f r
+      go (r ∷ rs) (suc n) l = go rs n (omega arith)
+
+  pub nth-ending : (t : Trace R) (n : ℕ) → length (t .readings) ≤ n → nth t n ≡ ended (t .ending)
   unfolding nth
   nth-ending t n l = say-ending (t .readings) (t .ending) n l
 

@@ -2,7 +2,7 @@
 -- is to come (`Draws`) says it call by call, and then the ending for ever (`says`). A step goes into the next run where none of the present
 -- one is left, again and again; how many it may enter does not matter (`ready-none`). Assumes nothing.
 use Prim.Native.Nat.{ℕ, zero, suc, _<_}
-use mathlib.Core.Path.{_≡_, refl, sym, _∙_, ap}
+use mathlib.Core.Path.{_≡_, refl, sym, _∙_, ap, subst}
 use mathlib.Core.List.{List, [], _∷_}
 use mathlib.Core.Bool.{Bool, true, false, cond}
 use native.Mathlib.Omega.{arith}
@@ -139,3 +139,12 @@ module _ {S : Type 0} (M : Entering S) where
 
       pub draws : Draws spread (λ c. drawn one (readyFrom c)) coming
       draws c = drawn-in (suc (M .size c)) c (omega arith)
+
+  -- what holds of a state holds of the one that is ready from there, of which some is left
+  pub ready-has : (P : S → Type 0) → ((c d : S) → P c → M .enter c ≡ on d → P d) → (c d : S) → P c → readyFrom c ≡ on d → P d × (0 < M .left d)
+  ready-has P enters c d p e =
+      subst (λ (x : Next S). Holds (λ d. P d × (0 < M .left d)) (drawn here x)) e
+      (keeps here P (λ d. P d × (0 < M .left d)) enters (λ d p l. (p, l)) c p)
+    where
+      here : S → Stepped (Unit {0}) S
+      here d = gives tt d

@@ -27,7 +27,7 @@ use Rattle.delta_cursor.proofs.SumCursors.{says-sums, sum-within, sum-a
 
 module _ (s : List ℕ) where
   -- a state that keeps a cursor within the column passes the check, and its step is the cursor's
-  abbrev keptStep : SumCursor → DeltaStepped
+  abbrev pub keptStep : SumCursor → DeltaStepped
   keptStep c = record { cursor = leaves (kept (length s)) (kept (length s) c) (deltaStep s c); answer = answerFor (said (deltaStep s c)) }
 
   kept-by : (at had left : ℕ) (x : Sort ℤ) (z : ℤ) → at ≤ length s
@@ -38,7 +38,7 @@ module _ (s : List ℕ) where
       ap (told (keptAs (length s) at had left (same (present d q)) z)) (checked-passes (length s) at s _ refl l)
   kept-by at had left literal z l = ap (told (bareAt (length s) at had left 2 z)) (checked-passes (length s) at s _ refl l)
 
-  kept-step : (c : SumCursor) → c .differences .at ≤ length s → stepOf s (kept (length s) c) ≡ keptStep c
+  pub kept-step : (c : SumCursor) → c .differences .at ≤ length s → stepOf s (kept (length s) c) ≡ keptStep c
   kept-step c l = kept-by (c .differences .at) (c .differences .had) (c .differences .left) (c .differences .sort) (c .sum) l
 
   -- the state after n calls from a new one, and what the next call then answers

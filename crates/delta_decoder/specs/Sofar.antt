@@ -1,5 +1,5 @@
 -- A delta column run by run: what the private functions of the reader promise one another. A sum z is kept as the unsigned number
--- z + 2^63, so that it leaves i64 where that leaves u64. No public promise cites it.
+-- z + 2^63, so that it leaves i64 where that leaves u64. Of the public promises those of `sum_of` and `times_held` alone cite it.
 use Prim.Native.Nat.{ℕ, zero, suc, _+_, _*_, _-_, _^_}
 use mathlib.Core.List.{List, [], _∷_}
 use mathlib.Core.Option.{Option, none, some}
@@ -23,7 +23,7 @@ unfoldable pub plusTimes : ℕ → ℤ → ℕ → Option ℕ
 plusTimes n (pos m) c = cond (ltb (n + c * m) (2 ^ 64)) (some (n + c * m)) none
 plusTimes n (negsuc m) c = cond (leb (c * suc m) n) (some (n - c * suc m)) none
 
-abbrev pub heldOn : Option ℕ → (ℕ → ℕ) → ℕ
+abbrev pub heldOn : {A : Type 0} → Option A → (A → ℕ) → ℕ
 heldOn none k = 0
 heldOn (some m) k = k m
 

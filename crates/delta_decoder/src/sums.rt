@@ -72,7 +72,7 @@ fn smaller(a: u64, b: u64) -> u64
 }
 
 // How many of c times a difference can be added to the sum n before it leaves i64.
-pub(crate) fn times_held(n: u64, d: i64, c: u64) -> u64
+pub fn times_held(n: u64, d: i64, c: u64) -> u64
     ensures { λ r. ⌜ r ≡ timesHeld n d c ⌝ }
 {
     let m = magnitude(d);

@@ -28,7 +28,7 @@ use Rattle.rle_cursor.specs.declared.RleAnswer.the-variants as answer
 
 module _ (s : List ℕ) where
   -- a state that keeps a cursor within the column passes the check, and its step is the cursor's
-  abbrev keptStep : Cursor ℕ → RleStepped
+  abbrev pub keptStep : Cursor ℕ → RleStepped
   keptStep c = record { cursor = leaves (kept (length s)) (kept (length s) c) (step u64E s c); answer = answerFor (said (step u64E s c)) }
 
   kept-by : (at had left : ℕ) (x : Sort ℕ) → at ≤ length s → stepOf s (kept (length s) (cursor at had left x)) ≡ keptStep (cursor at had left x)
@@ -37,7 +37,7 @@ module _ (s : List ℕ) where
   kept-by at had left (same (present a q)) l = ap (told (keptAs (length s) at had left (same (present a q)))) (checked-passes (length s) at s _ refl l)
   kept-by at had left literal l = ap (told (bareAt (length s) at had left 2)) (checked-passes (length s) at s _ refl l)
 
-  kept-step : (c : Cursor ℕ) → c .at ≤ length s → stepOf s (kept (length s) c) ≡ keptStep c
+  pub kept-step : (c : Cursor ℕ) → c .at ≤ length s → stepOf s (kept (length s) c) ≡ keptStep c
   kept-step c l = kept-by (c .at) (c .had) (c .left) (c .sort) l
 
   -- the state after n calls from a new one, and what the next call then answers

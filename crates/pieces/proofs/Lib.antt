@@ -1,0 +1,4 @@
+pub mod BooleanPieces
+pub mod DeltaPieces
+pub mod Repeating
+pub mod RlePieces

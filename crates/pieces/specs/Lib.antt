@@ -1,0 +1,3 @@
+pub mod Boolean
+pub mod Delta
+pub mod Rle
