@@ -1,4 +1,4 @@
-/* The column encodings of Automerge documents, proved: numbers, specifications, columns, salvage, tables, reasons and edits.
+/* The column encodings of Automerge documents, proved: numbers, specifications, columns, salvage, forms, tables, reasons and edits.
  *
  * Link libcapi.a, which `rt staticlib capi` writes (x86-64 Linux). The functions call nothing but memcpy and memset, allocate nothing,
  * keep nothing and share nothing: any two may run at once on different buffers.
@@ -122,6 +122,14 @@ typedef struct {
     uint64_t kept;      /* 24 */
     size_t written;     /* 32 */
 } grundavok_salvaged;
+
+/* Whether a column is in our form: ours is 1, or 0 where it is not, and then differs is the place of the first byte that differs. 24 bytes. */
+typedef struct {
+    uint8_t number; /* 0 */
+    uint8_t ours;   /* 1 */
+    size_t place;   /* 8 */
+    size_t differs; /* 16 */
+} grundavok_form;
 
 /* Why a table or a column is refused. 96 bytes. number and place are the call's own refusal; fault and fault_place the table's or the column's, 0
  * and 0 where nothing is wrong. `about` says what the reason speaks of, and with it which of the numbers apply:
@@ -472,6 +480,17 @@ grundavok_salvaged grundavok_boolean_salvage(uint8_t typ, const uint8_t *s, size
 grundavok_salvaged grundavok_text_salvage(uint8_t typ, const uint8_t *s, size_t s_len, uint64_t *starts, size_t starts_len,
                                           uint64_t *lens, size_t lens_len, uint8_t *present, size_t present_len, uint8_t *out,
                                           size_t out_len);
+
+/* ---- Form: is a column what encode gives for the list it reads as? ---- */
+
+/* ours is 1 exactly where decode and then encode give the same bytes again (booleans: encode, not the all-false form). Otherwise it is 0, and differs is
+ * the place of the first byte at which the two differ, or the shorter length where one is the start of the other; both can be 0, and a refusal has 0 for
+ * both too: look at number first. Not in our form are runs that could be longer, runs of no reading, and a column of absent readings alone, for which encode
+ * gives no bytes at all. A column that is not ours is no broken one: it reads like any other. It may even be shorter: 7c 01 02 02 03 is by a byte, as
+ * encode takes the two equal neighbours out of the literal run.
+ * No slots; it costs what the bytes cost, whatever the counts announce. `typ` is the column's type, as grundavok_spec_col_type gives it. Refusals, in this
+ * order: 17 for a type that no call serves; the column's first fault, the refusal of its count. */
+grundavok_form grundavok_column_form(uint8_t typ, const uint8_t *s, size_t s_len);
 
 /* ---- Tables: a block is a table followed directly by its column data and nothing more ---- */
 

@@ -5,6 +5,7 @@ mod columns;
 mod delta;
 mod edited;
 mod edits;
+mod forms;
 mod kinds;
 mod numbers;
 mod optional;
@@ -37,7 +38,7 @@ pub struct Family {
     write: fn(&mut String, &Options, &mut Random),
 }
 
-pub const FAMILIES: [Family; 18] = [
+pub const FAMILIES: [Family; 19] = [
     Family {
         name: "numbers-short",
         about: "the four readers on all inputs of 0 to 2 bytes",
@@ -122,6 +123,11 @@ pub const FAMILIES: [Family; 18] = [
         name: "salvage",
         about: "columns of the four kinds, sound and faulty ones, surveyed and salvaged",
         write: salvage::all,
+    },
+    Family {
+        name: "forms",
+        about: "columns of the four kinds, sound and faulty ones: are they what the writer gives",
+        write: forms::all,
     },
     Family {
         name: "utf8",

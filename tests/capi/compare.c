@@ -100,6 +100,11 @@ void salvaged_is(int line, const char *call, grundavok_salvaged r, uint8_t numbe
     told(line, call, r.kept == kept && r.written == written);
 }
 
+void form_is(int line, const char *call, grundavok_form r, uint8_t number, size_t place, uint8_t ours, size_t differs) {
+    calls++;
+    told(line, call, r.number == number && r.place == place && r.ours == ours && r.differs == differs);
+}
+
 void reason_is(int line, const char *call, grundavok_reason a, grundavok_reason b) {
     calls++;
     told(line, call, a.number == b.number && a.place == b.place && a.fault == b.fault && a.fault_place == b.fault_place);
@@ -147,6 +152,7 @@ _Static_assert(sizeof(grundavok_boolean_cursor) == 40 && offsetof(grundavok_bool
 _Static_assert(sizeof(grundavok_counted) == 24 && offsetof(grundavok_counted, count) == 16, "counted");
 _Static_assert(sizeof(grundavok_survey) == 24 && offsetof(grundavok_survey, readings) == 16, "survey");
 _Static_assert(sizeof(grundavok_salvaged) == 40 && offsetof(grundavok_salvaged, written) == 32, "salvaged");
+_Static_assert(sizeof(grundavok_form) == 24 && offsetof(grundavok_form, differs) == 16, "form");
 _Static_assert(sizeof(grundavok_specification) == 24 && offsetof(grundavok_specification, spec) == 16, "specification");
 _Static_assert(sizeof(grundavok_table) == 1288 && offsetof(grundavok_table, rows) == 1280, "table");
 _Static_assert(sizeof(grundavok_opened) == 1312 && offsetof(grundavok_opened, table) == 24, "opened");
@@ -162,6 +168,7 @@ int main(void) {
     pieces();
     texts();
     salvages();
+    forms();
     reasons();
     tables();
     edits();

@@ -7,13 +7,16 @@
 //!
 //! A column that was cut is refused by the calls that read all of it; `salvage` of each kind keeps what stands before the fault ([`salvage`]).
 //!
-//! [`reason`] says why: which row or which run, and the facts.
+//! [`form`] says whether a column is what our writer gives for the list it reads as.
+//!
+//! [`reason`] says why a table or a column is refused: which row or which run, and the facts.
 //!
 //! Names ([`text`]) are parts of the bytes that they were found in, since one that repeats stands there once.
 
 pub mod boolean;
 pub mod column_specification;
 pub mod delta;
+pub mod form;
 pub mod leb128;
 mod lists;
 /// The boundary itself, for callers that lend buffers of their own.

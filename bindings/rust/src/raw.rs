@@ -34,6 +34,15 @@ pub struct Salvaged {
     pub written: usize,
 }
 
+/// Whether a column is in our form, 1 or 0, and the place of the first byte that differs.
+#[repr(C)]
+pub struct Form {
+    pub number: u8,
+    pub ours: u8,
+    pub place: usize,
+    pub differs: usize,
+}
+
 /// Why a table or a column is refused: the header says which numbers apply under which `about`, `sign` and `facts`.
 #[repr(C)]
 pub struct Reason {
@@ -344,6 +353,8 @@ extern "C" {
         out: *mut u8,
         out_len: usize,
     ) -> Salvaged;
+
+    pub fn grundavok_column_form(typ: u8, s: *const u8, s_len: usize) -> Form;
 
     pub fn grundavok_read_table(block: *const u8, block_len: usize) -> Opened;
     pub fn grundavok_locate(block: *const u8, block_len: usize, position: usize) -> Part;

@@ -11,6 +11,7 @@ fn calls() {
 #[cfg(grundavok_linked)]
 mod calls {
     use grundavok::column_specification::{ColumnSpec, ColumnType};
+    use grundavok::form::{self, Form};
     use grundavok::raw_column::{Frame, Row};
     use grundavok::reason::{self, About, Facts, Reason};
     use grundavok::salvage::{Salvaged, Survey};
@@ -450,5 +451,25 @@ mod calls {
             twelve.to_string(),
             "refusal 21 at 2: run 0, which begins at byte 0 with the count -2, at reading 1: the bytes end where a number is due"
         );
+    }
+
+    #[test]
+    fn forms() {
+        let of = form::of_column;
+        assert_eq!(of(ColumnType::Integer, &[0x02, 0x05]), Ok(Form::Ours));
+        assert_eq!(of(ColumnType::Actor, &[]), Ok(Form::Ours));
+        assert_eq!(of(ColumnType::Integer, &[0xff, 0xff, 0xff, 0xff, 0x0f, 0x05]), Ok(Form::Ours));
+        assert_eq!(of(ColumnType::Integer, &[0x02, 0x05, 0x01, 0x06]), Ok(Form::Differs(2)));
+        assert_eq!(of(ColumnType::Integer, &[0x00, 0x03]), Ok(Form::Differs(0)));
+        assert_eq!(of(ColumnType::DeltaInteger, &[0x7e, 0x01, 0x01]), Ok(Form::Differs(0)));
+        assert_eq!(of(ColumnType::Boolean, &[0x01]), Ok(Form::Ours));
+        assert_eq!(of(ColumnType::Boolean, &[0x05, 0x03, 0x00]), Ok(Form::Differs(2)));
+        assert_eq!(of(ColumnType::String, &[0x02, 0x02, b'A', b'N']), Ok(Form::Ours));
+        assert_eq!(of(ColumnType::Integer, &[0x01, 0x80]), refused(1, 1));
+        assert_eq!(of(ColumnType::Group, &[0x02]), refused(17, 0));
+        let list = [Some(7), Some(7), None, Some(-1)];
+        let column = delta::encode(&list).unwrap();
+        assert_eq!(of(ColumnType::DeltaInteger, &column), Ok(Form::Ours));
+        assert_eq!(Form::Differs(2).to_string(), "not in our form, from byte 2 on");
     }
 }

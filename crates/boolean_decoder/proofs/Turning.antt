@@ -13,7 +13,7 @@ use Rattle.leb128.specs.Read.{u64At}
 use Rattle.leb128.proofs.Laws.{u64-next}
 use Rattle.encoding.specs.Limit.{limit}
 use Rattle.encoding.specs.Survivors.{surveyed, surveyOf}
-use Rattle.encoding.specs.Walk.{Run, Next, over, on, off, whole, cut, stop, onward, sound, fault}
+use Rattle.encoding.specs.Walk.{Run, Trace, Next, over, on, off, whole, cut, stop, onward, sound, fault}
 use Rattle.encoding.proofs.Lists.{cond-by}
 use Rattle.encoding.proofs.Surveying.{surveys, surveys-start, surveys-off, surveys-over}
 use Rattle.encoding.proofs.Walking.{Machine, rest, rest-is, next-eq, readings-eq}
@@ -113,6 +113,10 @@ trace-rest s = refl
 pub turns-on : (s : List ℕ) (st : Turn) → turnsFrom s st ≡ onward (turnAt s st) (λ z. turnsFrom s z)
 unfolding turnsFrom rest
 turns-on s st = rest-is (turns s) st (turnAt s st .next) refl
+
+-- its readings, by the count there
+pub readings-on : (s : List ℕ) (st : Turn) {r : Run ℕ Turn} → turnAt s st ≡ r → turnsFrom s st .readings ≡ onward r (λ z. turnsFrom s z) .readings
+readings-on s st e = ap (λ (t : Trace ℕ). t .readings) (turns-on s st ∙ ap (λ (r : Run ℕ Turn). onward r (λ z. turnsFrom s z)) e)
 
 -- what looking the readings over owes, at the start and where the bytes end
 pub surveys-trace : (s : List ℕ) → surveyOf (boolTrace s) ≡ surveys (turns s) (turn 0 0 0)

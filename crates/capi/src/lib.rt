@@ -6,6 +6,7 @@ mod cursor_pieces;
 mod cursors;
 mod edits;
 mod edits_to_end;
+mod forms;
 mod numbers;
 mod reasons;
 mod salvages;
@@ -64,6 +65,15 @@ pub struct Salvaged {
     pub fault_place: usize,
     pub kept: u64,
     pub written: usize,
+}
+
+// Whether a column is in our form: `ours` is 1, or 0 and `differs` the place of the first byte that differs.
+#[repr(C)]
+pub struct Form {
+    pub number: u8,
+    pub ours: u8,
+    pub place: usize,
+    pub differs: usize,
 }
 
 // Why a table or a column was refused. `number` and `place` are the call's own refusal, as everywhere; `fault` and `fault_place` are the table's or the column's, 0 and

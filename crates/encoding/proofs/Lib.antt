@@ -17,6 +17,7 @@ pub mod Running
 pub mod Sizes
 pub mod StretchParts
 pub mod Surveying
+pub mod Times
 pub mod Via
 pub mod Walking
 pub mod Within

@@ -128,6 +128,16 @@ module _ {A : Type 0} (same : A → A → Bool) where
   closed-none (Stretch.repeat n b ∷ r) = tt
   closed-none (Stretch.literal b bs ∷ r) = tt
 
+  -- a value that does not join the first stretch begins a literal one
+  pub open-lone : (a : A) (r : List (Stretch A)) → Off same a r → Closed (joinSome same a r) → ⊥
+  unfolding joinSome
+  open-lone a [] o c = c
+  open-lone a (Stretch.absent n ∷ r) o c = c
+  open-lone a (Stretch.repeat n b ∷ r) o c =
+      subst (λ (t : Bool). Closed (cond t (Stretch.repeat (suc n) b ∷ r) (Stretch.literal a [] ∷ Stretch.repeat n b ∷ r))) o c
+  open-lone a (Stretch.literal b bs ∷ r) o c =
+      subst (λ (t : Bool). Closed (cond t (Stretch.repeat 2 b ∷ literalOf bs r) (Stretch.literal a (b ∷ bs) ∷ r))) o c
+
   module _ (same-eq : (a b : A) → same a b ≡ true → a ≡ b) (same-self : (a : A) → same a a ≡ true) where
     pub off-some : (a b : A) (r : List (Stretch A)) → same a b ≡ false → Off same a (joinSome same b r)
     unfolding joinSome

@@ -3,6 +3,7 @@
 use Prim.Native.Nat.{ℕ, zero, suc, _+_, _-_, _≤_, _<_}
 use mathlib.Core.Path.{_≡_}
 use mathlib.Core.List.{List, [], _∷_}
+use mathlib.Core.Option.{Option, none, some}
 use mathlib.Core.Bool.{Bool, true, false}
 use lib.ListN.{length, getD, drop}
 use lib.Seq.{slice, sets}
@@ -12,6 +13,13 @@ use Rattle.encoding.specs.Writer.{stretchesBytes}
 use Rattle.encoding.specs.Given.{slotList}
 use Rattle.encoding.specs.declared.StretchEnd.{StretchEnd}
 use Rattle.encoding.specs.declared.StretchEnd.the-variants as stretch
+
+-- two readings are the same
+unfoldable pub alike : {A : Type 0} → Element A → Option A → Option A → Bool
+alike E none none = true
+alike E none (some b) = false
+alike E (some a) none = false
+alike E (some a) (some b) = E .same a b
 
 -- the stretches from an index on, and their bytes
 unfoldable pub from : {A : Type 0} → (A → A → Bool) → List A → List ℕ → ℕ → List (Stretch A)

@@ -21,7 +21,7 @@ use Rattle.encoding.specs.Head.{Head, amiss, judged, absentHead, begun}
 use Rattle.encoding.specs.Limit.{limit}
 use Rattle.encoding.specs.Longest.{readingsIn}
 use Rattle.encoding.specs.Stretches.{Stretch}
-use Rattle.encoding.specs.Walk.{Run, Next, off, whole, Trace, Ending, sound, fault, before, after, onward}
+use Rattle.encoding.specs.Walk.{Run, Next, on, off, whole, Trace, Ending, sound, fault, before, after, onward}
 use Rattle.encoding.specs.Writer.{allBytes, stretchBytes}
 use Rattle.encoding.proofs.Back.{u64-stands, begins}
 use Rattle.encoding.proofs.Columns.{repeated-got, repeated-bad, trace-on}
@@ -44,9 +44,10 @@ append-same (u ∷ us) (v ∷ vs) xs ys l e =
     (ap (λ (x : _). x ∷ us) f ∙ ap (λ (l : List _). v ∷ l) (k .0), k .1)
 
 module _ {A : Type 0} (E : Element A) (L : ElementLaws E) (s : List ℕ) (B : (i : ℕ) → getD s i 0 < 256) where
-  -- what comes behind the bytes w of a run at p: ys, soundly
+  -- what comes behind the bytes w of a run at p, which has n readings: ys, soundly
   pub record Follows (p had : ℕ) (w : List ℕ) (n : ℕ) (ys : List (Option A)) : Type 0 where
     pub stands : Stands s p w
+    pub next : runAt E s (spot p had) .next ≡ on (spot (p + length w) (had + n))
     pub rest : map value (traceFrom E s (spot (p + length w) (had + n)) .readings) ≡ ys
     pub sound : traceFrom E s (spot (p + length w) (had + n)) .ending ≡ Ending.sound
 
@@ -86,6 +87,7 @@ module _ {A : Type 0} (E : Element A) (L : ElementLaws E) (s : List ℕ) (B : (i
       ∙ ap (λ (t : Trace (Reading A)). map value (t .readings)) (sym t) ∙ e in
       record {
         stands = h;
+        next = next-eq r ∙ ap (λ (k : ℕ). on (spot k (had + n))) w;
         rest = ap (λ (k : ℕ). map value (traceFrom E s (spot k (had + n)) .readings)) (sym w) ∙ append-same (replicate n none) (replicate n none) _ ys refl b .1;
         sound = ap (λ (k : ℕ). traceFrom E s (spot k (had + n)) .ending) (sym w) ∙ ap (λ (t : Trace (Reading A)). t .ending) (sym t) ∙ o;
       }
@@ -126,6 +128,7 @@ module _ {A : Type 0} (E : Element A) (L : ElementLaws E) (s : List ℕ) (B : (i
           let w : z ≡ p + length (i64Bytes (pos n) ++ E .write a) = omega (arith, r .1, ap (λ (x : A). length (E .write x)) ba, length-append (i64Bytes (pos n)) (E .write a)) in
           record {
             stands = stands-join s p (i64Bytes (pos n)) (E .write a) h v;
+            next = next-eq (run ∙ repeated-got had n q z b (E .read s q) f) ∙ ap (λ (k : ℕ). on (spot k (had + n))) w;
             rest = ap (λ (k : ℕ). map value (traceFrom E s (spot k (had + n)) .readings)) (sym w) ∙ k .1;
             sound = ap (λ (k : ℕ). traceFrom E s (spot k (had + n)) .ending) (sym w) ∙ ap (λ (t : Trace (Reading A)). t .ending) (sym t) ∙ o;
           }
@@ -231,6 +234,7 @@ module _ {A : Type 0} (E : Element A) (L : ElementLaws E) (s : List ℕ) (B : (i
           omega (arith, ap (λ (l : List A). length (allBytes E l)) f, length-append (i64Bytes x) (allBytes E (a ∷ more))) in
           record {
             stands = stands-join s p (i64Bytes x) (allBytes E (a ∷ more)) h v;
+            next = next-eq (run ∙ y .run) ∙ ap (λ (k : ℕ). on (spot k (had + n))) w;
             rest = ap (λ (k : ℕ). map value (traceFrom E s (spot k (had + n)) .readings)) (sym w) ∙ k .1;
             sound = ap (λ (k : ℕ). traceFrom E s (spot k (had + n)) .ending) (sym w) ∙ ap (λ (t : Trace (Reading A)). t .ending) (sym t) ∙ o;
           }

@@ -1,3 +1,4 @@
+pub mod Cases
 pub mod Difference
 pub mod Form
 pub mod Heads

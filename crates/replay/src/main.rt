@@ -11,6 +11,7 @@ mod delta_salvages;
 mod deltas;
 mod edits;
 mod fields;
+mod forms;
 mod integer_edits;
 mod integer_salvages;
 mod integers;
@@ -76,6 +77,10 @@ fn run(name: &[u8], line: &[u8], c: Cursor) -> Verdict {
         return v;
     }
     let v = salvages::run(name, line, c);
+    if is_known(v) {
+        return v;
+    }
+    let v = forms::run(name, line, c);
     if is_known(v) {
         return v;
     }

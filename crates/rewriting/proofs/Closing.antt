@@ -17,9 +17,10 @@ use borrow.Author.Tests.{le-leb, lt-leb, eq-eqb, ne-eqb}
 use Rattle.leb128.specs.Answer.{Answer, done, refused, within}
 use Rattle.leb128.specs.Write.{u64Bytes, i64Bytes}
 use Rattle.leb128.proofs.Laws.{u64-short, i64-short}
+use Rattle.encoding.specs.Ahead.{alike}
 use Rattle.encoding.specs.Cases.{answerOf}
 use Rattle.encoding.specs.Flags.{minus}
-use Rattle.rewriting.specs.Cutter.{spending, literalHead, absentRun, Shut, shut, isSome, singleOf, severalOf, closing, closedOf, alike, longer, turned, fedOf, finishedOf}
+use Rattle.rewriting.specs.Cutter.{spending, literalHead, absentRun, Shut, shut, isSome, singleOf, severalOf, closing, closedOf, longer, turned, fedOf, finishedOf}
 use Rattle.rewriting.specs.Values.{plainE, heldIn, isValue, Within, cutOf}
 use Rattle.rewriting.specs.declared.cutter.Held.{Held}
 use Rattle.rewriting.specs.declared.cutter.Held.the-variants as held

@@ -16,7 +16,7 @@ use Rattle.leb128.specs.Write.{i64Bytes}
 use Rattle.encoding.specs.Element.{Element}
 use Rattle.encoding.specs.Stretches.{Stretch, stretches}
 use Rattle.encoding.specs.Writer.{allBytes, stretchesBytes, anyPresent, columnBytes}
-use Rattle.encoding.specs.Ahead.{Off}
+use Rattle.encoding.specs.Ahead.{alike, Off}
 use Rattle.encoding.proofs.Fronts.{NoAbsent, NoValue, some-more}
 use Rattle.encoding.proofs.Lists.{cond-by}
 use Rattle.encoding.proofs.Looking.{off-none, off-some}
@@ -29,7 +29,6 @@ use Rattle.rewriting.specs.Cutter.{
   isSome,
   closing,
   closedOf,
-  alike,
   longer,
   turned,
   fedOf,

@@ -2,13 +2,11 @@
 -- alike. And so a column's readings, written again. Assumes nothing.
 use Prim.Native.Nat.{ℕ, zero, suc, _+_, _<_}
 use mathlib.Core.Path.{_≡_, refl, sym, _∙_, ap}
-use mathlib.Core.List.{List, [], _∷_, _++_, map, append-nil}
+use mathlib.Core.List.{List, [], _∷_, _++_, map}
 use mathlib.Core.Option.{Option, none, some, Option·map}
 use mathlib.Core.Bool.{Bool, true, false, cond}
-use native.Mathlib.Omega.{arith}
 use lib.IntN.{negsuc}
 use lib.ListN.{length, getD, take, length-map}
-use Rattle.leb128.specs.Got.{got}
 use Rattle.leb128.specs.Write.{i64Bytes}
 use Rattle.encoding.specs.Element.{Element}
 use Rattle.encoding.specs.Column.{Reading, absent, present, value, trace}
@@ -18,17 +16,9 @@ use Rattle.encoding.proofs.Elements.{ElementLaws}
 use Rattle.encoding.proofs.Back.{ListFits}
 use Rattle.encoding.proofs.Readable.{readable}
 use Rattle.text.specs.Text.{sameBytes}
-use Rattle.text.proofs.TextLaws.{text-laws}
+use Rattle.text.proofs.Bytes.{same-written}
 use Rattle.rewriting.specs.Rewritten.{rewritten}
 use Rattle.rewriting.specs.Values.{plainE, bytesIn}
-
--- ---- the equality test of bytes
-
-pub plain-eq : (v w : List ℕ) → sameBytes v w ≡ true → v ≡ w
-plain-eq v w e = text-laws .same-eq v w e
-
-pub plain-self : (v : List ℕ) → sameBytes v v ≡ true
-plain-self v = text-laws .same-self v
 
 -- ---- a stretch of other values
 
@@ -138,31 +128,6 @@ module _ {A : Type 0} (E : Element A) where
   bytes-value (present a place ∷ rs) = ap (λ (l : List (Option (List ℕ))). some (E .write a) ∷ l) (bytes-value rs)
 
   module _ (L : ElementLaws E) where
-    -- no two values that can be written have the same bytes
-    write-one : (a b : A) → E .fits a ≡ true → E .fits b ≡ true → E .write a ≡ E .write b → a ≡ b
-    write-one a b f g e =
-        let s = E .write a in
-        let x : E .read s 0 ≡ got a (0 + length s) =
-        L .back s 0 a f (record { pre = []; post = []; split = sym (append-nil s); place = refl }) in
-        let y : E .read s 0 ≡ got b (0 + length (E .write b)) =
-        L .back s 0 b g (record { pre = []; post = []; split = e ∙ sym (append-nil (E .write b)); place = refl }) in
-        cc
-
-    same-over : (a b : A) → E .fits a ≡ true → E .fits b ≡ true → E .same a b ≡ sameBytes (E .write a) (E .write b)
-    same-over a b f g = go (E .same a b) refl (sameBytes (E .write a) (E .write b)) refl
-      where
-        go : (t : Bool) → E .same a b ≡ t → (u : Bool) → sameBytes (E .write a) (E .write b) ≡ u → t ≡ u
-        go true d true e = refl
-        go false d false e = refl
-        go true d false e =
-            let q : sameBytes (E .write a) (E .write b) ≡ true =
-            ap (λ (c : A). sameBytes (E .write a) (E .write c)) (sym (L .same-eq a b d)) ∙ plain-self (E .write a) in
-            let z : _≡_ {A = ℕ} 0 1 = cc in absurd (omega arith)
-        go false d true e =
-            let q : E .same a b ≡ true =
-            ap (E .same a) (sym (write-one a b f g (plain-eq (E .write a) (E .write b) e))) ∙ L .same-self a in
-            let z : _≡_ {A = ℕ} 0 1 = cc in absurd (omega arith)
-
     some-over : (a : A) (r : List (Stretch A)) → E .fits a ≡ true → FirstFits r
         → map (over w) (joinSome (E .same) a r) ≡ joinSome sameBytes (E .write a) (map (over w) r)
     unfolding joinSome
@@ -171,7 +136,7 @@ module _ {A : Type 0} (E : Element A) where
     some-over a (Stretch.repeat n b ∷ r) f h =
         go (E .same a b)
         ∙ ap (λ (t : Bool).
-        cond t (Stretch.repeat (suc n) (w b) ∷ map (over w) r) (Stretch.literal (w a) [] ∷ Stretch.repeat n (w b) ∷ map (over w) r)) (same-over a b f h)
+        cond t (Stretch.repeat (suc n) (w b) ∷ map (over w) r) (Stretch.literal (w a) [] ∷ Stretch.repeat n (w b) ∷ map (over w) r)) (same-written E L a b f h)
       where
         go : (t : Bool) → map (over w) (cond t (Stretch.repeat (suc n) b ∷ r) (Stretch.literal a [] ∷ Stretch.repeat n b ∷ r))
             ≡ cond t (Stretch.repeat (suc n) (w b) ∷ map (over w) r) (Stretch.literal (w a) [] ∷ Stretch.repeat n (w b) ∷ map (over w) r)
@@ -180,7 +145,7 @@ module _ {A : Type 0} (E : Element A) where
     some-over a (Stretch.literal b l ∷ r) f h =
         go (E .same a b)
         ∙ ap (λ (t : Bool).
-        cond t (Stretch.repeat 2 (w b) ∷ literalOf (map w l) (map (over w) r)) (Stretch.literal (w a) (w b ∷ map w l) ∷ map (over w) r)) (same-over a b f h)
+        cond t (Stretch.repeat 2 (w b) ∷ literalOf (map w l) (map (over w) r)) (Stretch.literal (w a) (w b ∷ map w l) ∷ map (over w) r)) (same-written E L a b f h)
       where
         go : (t : Bool) → map (over w) (cond t (Stretch.repeat 2 b ∷ literalOf l r) (Stretch.literal a (b ∷ l) ∷ r))
             ≡ cond t (Stretch.repeat 2 (w b) ∷ literalOf (map w l) (map (over w) r)) (Stretch.literal (w a) (w b ∷ map w l) ∷ map (over w) r)

@@ -11,9 +11,8 @@ use Rattle.leb128.specs.Answer.{Answer, done, within}
 use Rattle.leb128.specs.Got.{got, bad}
 use Rattle.leb128.specs.Read.{u64At}
 use Rattle.encoding.specs.Limit.{limit}
-use Rattle.encoding.specs.Walk.{Run, Trace, onward}
-use Rattle.boolean_decoder.specs.Turns.{Turn, turn, counted, turnAt, turnsFrom, boolTrace}
-use Rattle.boolean_decoder.proofs.Turning.{counted-whole, counted-many, counted-bad, turn-read, turn-end, turns-on}
+use Rattle.boolean_decoder.specs.Turns.{turn, turnsFrom, boolTrace}
+use Rattle.boolean_decoder.proofs.Turning.{counted-whole, counted-many, counted-bad, turn-read, turn-end, readings-on}
 use Rattle.rewriting.specs.Rewritten.{rewrittenTurns}
 use Rattle.rewriting.specs.Turning.{Turns, turns, counting, turnedBy, turnedAll}
 use Rattle.rewriting.specs.Turning as spec
@@ -65,16 +64,12 @@ module _ (s : List ℕ) (room : ℕ) where
   walked-start = record { owed = refl; many = omega arith; bit = omega arith; capped = omega arith; few = omega arith }
 
   module _ {c : Turns} {at had flag : ℕ} (W : Walked s room c at had flag) where
-    -- by the count here
-    rest-is : {r : Run ℕ Turn} → turnAt s (turn at had flag) ≡ r → turnsFrom s (turn at had flag) .readings ≡ onward r (λ z. turnsFrom s z) .readings
-    rest-is e = ap (λ (t : Trace ℕ). t .readings) (turns-on s (turn at had flag) ∙ ap (λ (r : Run ℕ Turn). onward r (λ z. turnsFrom s z)) e)
-
     pub walked-on : (n next : ℕ) {d : Turns} → at < length s → u64At s at ≡ got n next → had + n ≤ limit → d ≡ turnedBy room c flag n → d .times ≤ c .times + n
         → Walked s room d next (had + n) (1 - flag)
     walked-on n next {d} l e m f g =
         let z = turn next (had + n) (1 - flag) in
         let ys = turnsFrom s z .readings in
-        let k = rest-is (turn-read s (turn at had flag) (got n next) l e ∙ counted-whole (turn at had flag) n next m) in
+        let k = readings-on s (turn at had flag) (turn-read s (turn at had flag) (got n next) l e ∙ counted-whole (turn at had flag) n next m) in
         record {
           owed = W .owed ∙ ap (turnedAll room c) k ∙ turned-append room c (replicate n flag) ys
               ∙ ap (λ (x : Turns). turnedAll room x ys) (sym (f ∙ turned-times room c flag n));
@@ -96,12 +91,12 @@ module _ (s : List ℕ) (room : ℕ) where
     pub walked-many : (n next : ℕ) {u : Answer} → at < length s → u64At s at ≡ got n next → limit < had + n → u ≡ spec.counted room had c
         → u ≡ within 10 room (done (length (rewrittenTurns s)))
     walked-many n next l e m f =
-        stopped (rest-is (turn-read s (turn at had flag) (got n next) l e ∙ counted-many (turn at had flag) n next m)) f
+        stopped (readings-on s (turn at had flag) (turn-read s (turn at had flag) (got n next) l e ∙ counted-many (turn at had flag) n next m)) f
 
     pub walked-bad : (number place : ℕ) {u : Answer} → at < length s → u64At s at ≡ bad number place → u ≡ spec.counted room had c
         → u ≡ within 10 room (done (length (rewrittenTurns s)))
     walked-bad number place l e f =
-        stopped (rest-is (turn-read s (turn at had flag) (bad number place) l e ∙ counted-bad (turn at had flag) number place)) f
+        stopped (readings-on s (turn at had flag) (turn-read s (turn at had flag) (bad number place) l e ∙ counted-bad (turn at had flag) number place)) f
 
     pub walked-end : {u : Answer} → length s ≤ at → u ≡ spec.counted room had c → u ≡ within 10 room (done (length (rewrittenTurns s)))
-    walked-end l f = stopped (rest-is (turn-end s (turn at had flag) l)) f
+    walked-end l f = stopped (readings-on s (turn at had flag) (turn-end s (turn at had flag) l)) f

@@ -9,6 +9,7 @@ use lib.ListN.{length}
 use lib.IntN.{pos, negsuc}
 use Rattle.leb128.specs.Answer.{Answer, done, refused, within}
 use Rattle.leb128.specs.Write.{u64Bytes, i64Bytes}
+use Rattle.encoding.specs.Ahead.{alike}
 use Rattle.encoding.specs.Element.{Element}
 
 -- n bytes more, where there is room for so many in all
@@ -48,13 +49,6 @@ pub record Shut : Type 0 where
 
 abbrev pub shut : Answer → ℕ → Shut
 shut used n = record { used = used; literals = n }
-
--- two readings are the same
-unfoldable pub alike : {A : Type 0} → Element A → Option A → Option A → Bool
-alike E none none = true
-alike E none (some b) = false
-alike E (some a) none = false
-alike E (some a) (some b) = E .same a b
 
 module _ {A : Type 0} (E : Element A) (room : ℕ) where
   abbrev pub singleOf : Bool → Answer → ℕ → ℕ → Shut

@@ -1,12 +1,13 @@
 // The writer's cut of a list that comes a reading at a time, for its size: nothing is looked at twice, and nothing is kept but some numbers. A value
 // is known by where its bytes stand in the column.
 ghost use mathlib.Core.Path.{_≡_};
-ghost use Prim.Native.Nat.{_+_, _≤_};
+ghost use Prim.Native.Nat.{_+_, _-_, _≤_};
 ghost use lib.ListN.{length};
+ghost use Rattle.encoding.specs.Ahead.{alike};
 ghost use Rattle.encoding.specs.Cases.{answerOf};
 ghost use Rattle.encoding.specs.Limit.{limit};
 ghost use Rattle.text.specs.Text.{bytesAt, sameBytes};
-ghost use Rattle.rewriting.specs.Cutter.{spending, literalHead, absentRun, singleOf, severalOf, closedOf, alike, fedOf, finishedOf};
+ghost use Rattle.rewriting.specs.Cutter.{spending, literalHead, absentRun, singleOf, severalOf, closedOf, fedOf, finishedOf};
 ghost use Rattle.rewriting.specs.Values.{plainE, heldIn, isValue, Within, cutOf, shutOf};
 use encoding::Answer;
 
@@ -50,19 +51,12 @@ pub(crate) fn spent(room: u64, n: u64, used: Answer) -> Answer
     }
 }
 
-// Are the n bytes from i on those from j on?
-fn same_bytes(s: &[u8], i: usize, j: usize, n: usize) -> bool
-    requires { ⌜ (i + n ≤ length (now s)) × (j + n ≤ length (now s)) ⌝ }
-    ensures { λ r. ⌜ r ≡ sameBytes (bytesAt (now (s .entry)) i n) (bytesAt (now (s .entry)) j n) ⌝ }
+// Are the bytes from a up to b those from c up to d?
+fn same_parts(s: &[u8], a: usize, b: usize, c: usize, d: usize) -> bool
+    requires { ⌜ (a ≤ b) × (b ≤ length (now s)) × (c ≤ d) × (d ≤ length (now s)) ⌝ }
+    ensures { λ r. ⌜ r ≡ sameBytes (bytesAt (now (s .entry)) a (b - a)) (bytesAt (now (s .entry)) c (d - c)) ⌝ }
 {
-    let mut k: usize = 0;
-    while k < n {
-        if s[i + k] != s[j + k] {
-            return false;
-        }
-        k += 1;
-    }
-    true
+    text::same_bytes(&s[a..b], &s[c..d])
 }
 
 // Is the reading that is held the value from `from` up to `till`?
@@ -72,12 +66,7 @@ fn holds_value(s: &[u8], held: Held, from: usize, till: usize) -> bool
 {
     match held {
         Held::Absent => false,
-        Held::Value(a, b) => {
-            if b - a != till - from {
-                return false;
-            }
-            same_bytes(s, a, from, b - a)
-        }
+        Held::Value(a, b) => same_parts(s, a, b, from, till),
     }
 }
 

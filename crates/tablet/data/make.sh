@@ -7,6 +7,9 @@
 # than the tool has room for. torn-kinds.block fits its table, and has a broken column of each kind, with refusal 6, 3, 3 and 20, behind which stand a
 # column of type 6 and one of type 7; cut-value.block broke off in that last one. Of torn-absent.block absent readings alone survive, and of
 # torn-long.block 42,300 booleans.
+# wasteful.block has a column of each kind that is not in our form: runs of one, a run in three, a 0 between counts, equal neighbours in a literal run (shorter than
+# ours), a name twice; absent readings alone, absent runs in a row; then one in our form, one that is as long as ours, one of 40,001 readings, and one of type 6.
+# torn-wasteful.block has one that is not in our form and one that does not read.
 # long.block has columns of many readings in few bytes: 72,500 depths and as many booleans, and 4,294,967,295 times the number 5.
 # refusals/NN.block is a small block for refusal NN of documents 01 and 02; 01-name.block ends inside a name.
 set -eu
@@ -40,6 +43,21 @@ head -c 26 long.block >cut-long.block
 head -c 57 torn-kinds.block >cut-value.block
 printf '\001\062\003\000\005\177' >torn-absent.block
 printf '\001\044\006\214\140\260\352\001\200' >torn-long.block
+{
+    printf '\013\021\004\023\006\044\003\062\005\105\007\122\002\142\006\162\002\202\001\002\222\001\006\246\001\003'
+    printf '\001\005\001\006'
+    printf '\002\001\002\001\001\001'
+    printf '\005\000\003'
+    printf '\174\001\002\002\003'
+    printf '\176\002\101\116\002\101\116'
+    printf '\000\003'
+    printf '\000\001\000\002\177\005'
+    printf '\002\005'
+    printf '\001\005'
+    printf '\300\270\002\007\001\007'
+    printf '\176\043\023'
+} >wasteful.block
+printf '\002\022\004\043\002\001\005\001\006\176\005' >torn-wasteful.block
 cd refusals
 printf '\003\023\350' >01.block
 printf '\001\105\006\176\002AN\003K' >01-name.block

@@ -101,6 +101,18 @@ pub fn say_long(path: &[u8], position: usize, n: u64, desk: Desk) {
     );
 }
 
+// So many columns of a file that do not read, said as a note.
+pub fn say_unread(path: &[u8], bad: usize, desk: Desk) {
+    pen::form(
+        files::about(path, desk),
+        b"columns that do not read: %; tablet salvage saves what it can of them\n",
+        bad as u64,
+        0,
+        0,
+        0,
+    );
+}
+
 // A refusal of a file's table, said as a note; where the file ends too early, where that is.
 pub fn say_table_refused(path: &[u8], block: &[u8], number: u8, place: usize, desk: Desk) {
     let p = refusals::say_of_table(files::about(path, desk), number, place);

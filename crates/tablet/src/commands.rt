@@ -5,6 +5,7 @@ use crate::help;
 use crate::make;
 use crate::pen::Desk;
 use crate::read;
+use crate::rewrite;
 use crate::salvaging;
 use crate::show;
 use crate::sound;
@@ -15,7 +16,7 @@ use crate::words;
 pub fn run(line: &[u8], desk: Desk) -> bool {
     let name = words::word(line, 0);
     match words::index(
-        b"show\0read\0draw\0check\0edit\0make\0salvage\0why\0help\0--help\0-h\0",
+        b"show\0read\0draw\0check\0edit\0make\0salvage\0rewrite\0why\0help\0--help\0-h\0",
         name,
     ) {
         0 => show::run(line, desk),
@@ -25,8 +26,9 @@ pub fn run(line: &[u8], desk: Desk) -> bool {
         4 => edit::run(line, desk),
         5 => make::run(line, desk),
         6 => salvaging::run(line, desk),
-        7 => why::run(line, desk),
-        8 | 9 | 10 => help::run(desk),
+        7 => rewrite::run(line, desk),
+        8 => why::run(line, desk),
+        9 | 10 | 11 => help::run(desk),
         _ => help::unknown(name, desk),
     }
 }

@@ -8,14 +8,15 @@ fn say_looking(p: Pen) -> Pen {
         p,
         b"tablet: looks at blocks of columns, draws them, edits them, makes them and saves what is left of them
 
-  tablet show FILE             the table: a row a column, with the number of its readings or where it breaks
+  tablet show FILE             the table: a row a column, with the number of its readings or where it breaks;
+                               of a column that is not in our form how many bytes it has more or fewer than ours
   tablet read FILE COLUMN [START END]
                                the readings of the column at a position, one a line, absent ones as -; of all of it, or
                                from START up to, not including, END
   tablet draw FILE COLUMN [--svg OUT [--over]]
                                the readings as a picture: in the terminal, or as a file for a browser; names are not drawn;
                                of a broken column what survived, with a crack where it breaks
-  tablet check FILE..          one line a file: sound, or the first refusal of each column
+  tablet check FILE..          one line a file: sound, or the first refusal of each column; then those not in our form
   tablet why FILE [COLUMN]     why a block, or its column at a position, is refused: which row or which run is at fault, the
                                facts that make it so, and the bytes around the place, the number at fault in brackets
 ",
@@ -35,6 +36,9 @@ fn say_writing(p: Pen) -> Pen {
   tablet salvage FILE --to OUT [--over]
                                a sound block of what survives in a cut or broken one: whole columns as they are, of any
                                other the readings before its first fault; says of each what was done and what is gone
+  tablet rewrite FILE --to OUT [--over]
+                               the block with every sound column in our form, as make and edit write it; says of each what
+                               was done, and how many bytes are saved
   tablet script FILE           runs each line of FILE as a command (without the word tablet; # begins a remark)
 ",
     )
@@ -52,10 +56,13 @@ have no count. read lists names as make and edit take them, bytes that a termina
 takes quotes for its own: put the word in single quotes as well. In a script a blank between double quotes ends no word.
 A cut that falls between two runs is no fault of a column: what is left reads as a shorter one, and only the lengths in
 the table show it. salvage keeps what stands before such a cut too, and says that the column lost something.
+A column that is not in our form reads all the same. Most such columns take more room than ours, a few less: a literal run
+with two equal neighbours may. rewrite leaves as they stand columns that do not read, and columns of absent readings alone,
+for which our form has no bytes, so that the absent readings would be gone.
 OUT is written completely or not at all. A file that is there already, the input among them, is left as it is, unless
 --over is the last word: then it is replaced. Blocks have at most 524,288 bytes; a column that is read or drawn
-has at most 10,000,000 readings, and one that is edited or made, a broken one that is salvaged, or a text column that
-is read, 32,768. A list of names is given in at most 131,072 bytes.
+has at most 10,000,000 readings, and one that is edited or made, a broken one that is salvaged, one that is
+rewritten, or a text column that is read, 32,768. A list of names is given in at most 131,072 bytes.
 What goes wrong is said on standard error, and ./tablet then ends with status 1.
 ",
     )

@@ -57,8 +57,8 @@ fn names(typ: u8, part: &[u8], out: &mut [u8]) -> Salvaged {
     text_salvage::salvage(typ, part, &mut starts, &mut lens, &mut present, out)
 }
 
-// What survives of a column, at the front of out.
-fn renew(spec: u32, part: &[u8], out: &mut [u8]) -> Salvaged {
+// What survives of a column, all of a sound one, at the front of out.
+pub fn renew(spec: u32, part: &[u8], out: &mut [u8]) -> Salvaged {
     let typ = kinds::number(spec);
     match kinds::of_spec(spec) {
         Kind::Signed => signed(typ, part, out),

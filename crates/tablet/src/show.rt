@@ -1,9 +1,9 @@
 // tablet show FILE: the table, a row a column.
 use crate::column;
 use crate::files;
+use crate::forms;
 use crate::help;
 use crate::kinds;
-use crate::kinds::Kind;
 use crate::parts::between;
 use crate::parts::plus;
 use crate::pen;
@@ -38,8 +38,17 @@ fn hex_digits(spec: u32) -> usize {
     io::hex(spec as u64, 2, &mut room)
 }
 
+// A mark where a column is not in our form.
+fn say_form(p: Pen, part: &[u8], spec: u32) -> Pen {
+    if forms::is_other(part, spec) {
+        return forms::say(pen::text(p, b"; "), part, kinds::of_spec(spec));
+    }
+    p
+}
+
 // How many readings a column has, or the refusal in words.
-fn say_readings(p: Pen, part: &[u8], kind: Kind) -> Shown {
+fn say_readings(p: Pen, part: &[u8], spec: u32) -> Shown {
+    let kind = kinds::of_spec(spec);
     if !kinds::is_served(kind) {
         return Shown {
             pen: pen::text(p, b"not read\n"),
@@ -48,7 +57,7 @@ fn say_readings(p: Pen, part: &[u8], kind: Kind) -> Shown {
     }
     match walk::count(part, kind) {
         Answer::Done(n) => Shown {
-            pen: pen::form(p, b"%\n", n, 0, 0, 0),
+            pen: pen::text(say_form(pen::number(p, n), part, spec), b"\n"),
             bad: 0,
         },
         Answer::Refused(number, place) => Shown {
@@ -62,7 +71,7 @@ fn show_column(p: Pen, block: &[u8], position: usize) -> Shown {
     let c = column::locate(block, position);
     let part = between(block, c.start, c.end);
     let row = say_row(p, position, c.spec, part.len());
-    say_readings(row, part, kinds::of_spec(c.spec))
+    say_readings(row, part, c.spec)
 }
 
 fn show_columns(p: Pen, block: &[u8], rows: usize) -> Shown {
@@ -84,14 +93,7 @@ fn judge(path: &[u8], s: Shown, desk: Desk) -> bool {
     if s.bad == 0 {
         return pen::finish(s.pen, desk);
     }
-    pen::form(
-        files::about(path, desk),
-        b"columns that do not read: %; tablet salvage saves what it can of them\n",
-        s.bad as u64,
-        0,
-        0,
-        0,
-    );
+    column::say_unread(path, s.bad, desk);
     false
 }
 

@@ -1,6 +1,7 @@
 // tablet check FILE..: one line a file, for scripts.
 use crate::column;
 use crate::files;
+use crate::forms;
 use crate::help;
 use crate::kinds;
 use crate::parts::after;
@@ -64,12 +65,35 @@ fn judge_columns(p: Pen, block: &[u8], rows: usize) -> Line {
     l
 }
 
-fn end_line(l: Line, rows: usize) -> bool {
+// A mark where a column is not in our form: it is no refusal.
+fn mark_column(p: Pen, block: &[u8], position: usize) -> Pen {
+    let c = column::locate(block, position);
+    let part = between(block, c.start, c.end);
+    if forms::is_other(part, c.spec) {
+        let q = pen::form(p, b"; column %: ", position as u64, 0, 0, 0);
+        return forms::say(q, part, kinds::of_spec(c.spec));
+    }
+    p
+}
+
+fn mark_columns(p: Pen, block: &[u8], rows: usize) -> Pen {
+    let mut q = p;
+    let mut i = 0;
+    while i < rows {
+        q = mark_column(q, block, i);
+        i += 1;
+    }
+    q
+}
+
+fn end_line(l: Line, block: &[u8], rows: usize) -> bool {
+    let p = l.pen;
     if l.sound {
-        pen::form(l.pen, b"sound, columns: %\n", rows as u64, 0, 0, 0);
+        let q = pen::form(p, b"sound, columns: %", rows as u64, 0, 0, 0);
+        pen::text(mark_columns(q, block, rows), b"\n");
         return true;
     }
-    pen::text(l.pen, b"\n");
+    pen::text(mark_columns(p, block, rows), b"\n");
     false
 }
 
@@ -80,7 +104,7 @@ fn judge_block(p: Pen, block: &[u8]) -> bool {
         return false;
     }
     let t = o.table;
-    end_line(judge_columns(p, block, t.rows), t.rows)
+    end_line(judge_columns(p, block, t.rows), block, t.rows)
 }
 
 fn judge_file(path: &[u8], desk: Desk) -> bool {

@@ -12,12 +12,12 @@ use borrow.Author.Tests.{eq-eqb, ne-eqb}
 use Rattle.encoding.specs.Stretches.{stretches}
 use Rattle.encoding.specs.Ahead.{Off, Closed}
 use Rattle.encoding.proofs.Looking.{off-none, off-some, closed-none}
+use Rattle.encoding.proofs.Times.{piece-first}
 use Rattle.text.specs.Text.{bytesAt, sameBytes}
 use Rattle.text.proofs.TextLaws.{text-laws}
 use Rattle.text_encoder.specs.Walks.{heldIn, Within, nameIn, AbsentIf, sameAs, sameOf}
 use Rattle.text_encoder.specs.declared.walk.Held.{Held}
 use Rattle.text_encoder.specs.declared.walk.Held.the-variants as held
-use Rattle.text_encoder.proofs.Cutting.{piece-first}
 
 -- ---- bytes compared one by one
 

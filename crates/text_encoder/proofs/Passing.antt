@@ -8,14 +8,14 @@ use native.Mathlib.Omega.{arith}
 use lib.ListN.{length, take, replicate, length-append}
 use Rattle.leb128.specs.Write.{u64Bytes}
 use Rattle.encoding.specs.Writer.{allBytes, anyPresent}
+use Rattle.encoding.proofs.Times.{piece-less, any-behind, any-first}
 use Rattle.text.specs.Text.{bytesAt, textBytes, textE}
 use Rattle.text_encoder.specs.declared.walk.Held.{Held}
 use Rattle.text_encoder.specs.declared.walk.Held.the-variants as held
 use Rattle.text_encoder.specs.declared.walk.Splicing.{Splicing}
 use Rattle.text_encoder.specs.Cuts.{somes}
 use Rattle.text_encoder.specs.Walks.{heldIn, Within, bytesOf, sizeIn, restOf, listOf, Going}
-use Rattle.text_encoder.proofs.Cutting.{piece-less}
-use Rattle.text_encoder.proofs.Runs.{bytes-length, names-length, any-behind, any-first}
+use Rattle.text_encoder.proofs.Runs.{bytes-length, names-length}
 
 -- ---- what is written of the reading that is held
 

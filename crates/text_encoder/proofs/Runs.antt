@@ -8,7 +8,7 @@ use mathlib.Core.Bool.{true, false}
 use native.Mathlib.Omega.{arith}
 use native.Mathlib.Numerals.{add-one}
 use lib.IntN.{ℤ, pos, negsuc}
-use lib.ListN.{length, getD, set, take, drop, replicate, length-append, length-drop, drop-of-length-le}
+use lib.ListN.{length, getD, set, take, drop, length-append, length-drop, drop-of-length-le}
 use lib.Seq.{sets, drop-cons, getD-take, getD-drop, length-take-le}
 use lib.Signed.{mag}
 use mir.Syntax.{w64}
@@ -149,19 +149,6 @@ unfolding stretchesBytes stretches
 cut-over xs e = ap owing e
 
 -- ---- the column: nothing where no reading is present
-
-pub any-behind : {A : Type 0} (m : ℕ) (ys : List (Option A)) → anyPresent (replicate m none ++ ys) ≡ anyPresent ys
-unfolding anyPresent
-any-behind zero ys = refl
-any-behind (suc m) ys = any-behind m ys
-
-pub any-first : {A : Type 0} {xs : List (Option A)} {a : A} {ys : List (Option A)} → xs ≡ some a ∷ ys → true ≡ anyPresent xs
-unfolding anyPresent
-any-first e = sym (ap anyPresent e)
-
-pub any-over : {A : Type 0} {xs : List (Option A)} → xs ≡ [] → false ≡ anyPresent xs
-unfolding anyPresent
-any-over e = sym (ap anyPresent e)
 
 pub column-some : (xs : List (Option (List ℕ))) → anyPresent xs ≡ true → columnBytes textE xs ≡ owing xs
 unfolding columnBytes

@@ -13,6 +13,7 @@ use Rattle.encoding.specs.declared.StretchEnd.the-variants as stretch
 use Rattle.text.specs.Text.{sameBytes}
 use Rattle.text.proofs.TextLaws.{text-laws}
 use Rattle.encoding.proofs.Fronts.{NoAbsent}
+use Rattle.encoding.proofs.Times.{same-more, same-counts, piece-less, piece-first}
 use Rattle.text_encoder.specs.Cuts.{CutOf, RepeatOf, PairedIn}
 use Rattle.text_encoder.specs.Walks.{heldIn, nameIn, sameOf, restOf, listOf, Going}
 use Rattle.text_encoder.specs.declared.walk.Held.{Held}
@@ -20,7 +21,7 @@ use Rattle.text_encoder.specs.declared.walk.Held.the-variants as held
 use Rattle.text_encoder.specs.declared.walk.Splicing.{Splicing}
 use Rattle.text_encoder.proofs.Alike.{held-none, held-name, same-true, off-end, off-other, closed-none-first}
 use Rattle.text_encoder.proofs.Passing.{walk-over}
-use Rattle.text_encoder.proofs.Cutting.{same-more, same-counts, piece-less, piece-first, absent-stretch, repeat-of, repeat-stretch, lone, closed-pair}
+use Rattle.text_encoder.proofs.Cutting.{absent-stretch, repeat-of, repeat-stretch, lone, closed-pair}
 use Rattle.text_encoder.proofs.Cutting.{Unlike, unlike-start, unlike-counts, unlike-more, literal-stretch}
 
 -- ---- the same reading

@@ -6,10 +6,10 @@ use borrow.Author.Tests.{not-true, not-false}
 use borrow.Author.Needs.{needs}
 use Rattle.encoding.specs.Writer.{anyPresent}
 use Rattle.text.specs.Given.{nameList}
+use Rattle.encoding.proofs.Times.{any-over}
 use Rattle.text_encoder.specs.Walks.{At, namesFrom}
 use Rattle.text_encoder.proofs.Alike.{absent-true, absent-false}
 use Rattle.text_encoder.proofs.Passing.{walk-shorter, walk-some, walk-none, walk-over}
-use Rattle.text_encoder.proofs.Runs.{any-over}
 use Rattle.text_encoder.proofs.sizes.any_present.Statement.{statement}
 use Rattle.text_encoder.proofs.sizes.any_present.Tie as tie
 

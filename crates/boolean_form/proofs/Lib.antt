@@ -1,0 +1,3 @@
+pub mod Ahead
+pub mod Comparing
+pub mod Examples
