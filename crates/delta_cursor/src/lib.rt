@@ -125,7 +125,7 @@ fn carried_at(column: &[u8], q: usize, had: u64, c: u64) -> Reached
     requires { ⌜ had + c ≤ limit ⌝ }
     ensures { λ r. ⌜ nextOf r ≡ carried had c q (i64At (now (column .entry)) q) ⌝ }
 {
-    match leb128::leb128_i64(column, q) {
+    match leb128::i64_by_bytes(column, q) {
         ParsedI64::Number(d, next) => Reached::On(Differences {
             at: next,
             had: had + c,
@@ -200,7 +200,7 @@ fn literal_at(column: &[u8], lent: DeltaCursor, c: Differences) -> DeltaStepped
     requires { ⌜ 0 < c .left ⌝ }
     ensures { λ r. ⌜ r ≡ told lent (addStep (lent .sum) (oneLiteral (differencesOf c) (i64At (now (column .entry)) (c .at)))) ⌝ }
 {
-    match leb128::leb128_i64(column, c.at) {
+    match leb128::i64_by_bytes(column, c.at) {
         ParsedI64::Number(d, next) => match add(lent.sum, d) {
             Sum::Is(z) => DeltaStepped {
                 cursor: bare(lent.len, next, c.had, c.left - 1, LITERAL, z),

@@ -6,10 +6,13 @@ ghost use Prim.Native.Nat.{_+_, _≤_, _<_};
 ghost use lib.IntN.{pos};
 ghost use lib.ListN.{length, replicate};
 ghost use lib.Seq.{sets};
+ghost use Rattle.leb128.specs.Cases.{i64Of};
 ghost use Rattle.leb128.specs.Got.{got};
 ghost use Rattle.leb128.specs.Read.{i64At};
-ghost use Rattle.encoding.specs.Cases.{answerOf};
+ghost use Rattle.leb128.specs.Short.{short};
+ghost use Rattle.encoding.specs.Cases.{answerOf, headOf};
 ghost use Rattle.encoding.specs.Column.{repeated, literals};
+ghost use Rattle.encoding.specs.Head.{headAt};
 ghost use Rattle.encoding.specs.Limit.{limit};
 ghost use Rattle.encoding.specs.Slots.{slotOf, flagOf, Decoded, Room, Wrote};
 ghost use Rattle.encoding.specs.Survivors.{surveyOf, surviving};
@@ -38,12 +41,29 @@ enum Step {
     Off(u8, usize),
 }
 
+// How the run at `at` begins, by the fixed table.
+fn head_of(table: &[i8; 256], s: &[u8], at: usize, had: u64) -> Head
+    requires { ⌜ now table ≡ short ⌝ }
+    ensures { λ r. ⌜ headOf r ≡ headAt (now (s .entry)) at had ⌝ }
+{
+    run_head::head_by(table, s, at, had)
+}
+
+// The difference at `at`, by the fixed table.
+fn difference(table: &[i8; 256], s: &[u8], at: usize) -> ParsedI64
+    requires { ⌜ now table ≡ short ⌝ }
+    ensures { λ r. ⌜ i64Of r ≡ i64At (now (s .entry)) at ⌝ }
+{
+    leb128::i64_by(table, s, at)
+}
+
 // A repeated run of c differences, whose value stands at q, on the sum n.
-fn scan_repeat(s: &[u8], q: usize, had: u64, c: u64, n: u64) -> Step
+fn scan_repeat(table: &[i8; 256], s: &[u8], q: usize, had: u64, c: u64, n: u64) -> Step
     requires { ⌜ had + c ≤ limit ⌝ }
+    requires { ⌜ now table ≡ short ⌝ }
     ensures { λ r. ⌜ stepOf r ≡ summing n (repeated had c q (i64At (now (s .entry)) q)) .next ⌝ }
 {
-    match leb128::leb128_i64(s, q) {
+    match difference(table, s, q) {
         ParsedI64::Number(d, next) => match add_times(n, d, c) {
             Sum::Is(m) => Step::On(next, had + c, m),
             Sum::Outside => Step::Off(6, q),
@@ -53,14 +73,15 @@ fn scan_repeat(s: &[u8], q: usize, had: u64, c: u64, n: u64) -> Step
 }
 
 // c literal differences from q on, behind which there are `total` readings, on the sum `sum`.
-fn scan_literal(s: &[u8], q: usize, total: u64, c: u64, sum: u64) -> Step
+fn scan_literal(table: &[i8; 256], s: &[u8], q: usize, total: u64, c: u64, sum: u64) -> Step
+    requires { ⌜ now table ≡ short ⌝ }
     ensures { λ r. ⌜ stepOf r ≡ summing sum (literals i64E (now (s .entry)) total c q) .next ⌝ }
 {
     let mut at = q;
     let mut left = c;
     let mut n = sum;
     while 0 < left {
-        match leb128::leb128_i64(s, at) {
+        match difference(table, s, at) {
             ParsedI64::Number(d, next) => match add(n, d) {
                 Sum::Is(m) => {
                     at = next;
@@ -80,27 +101,29 @@ fn scan_literal(s: &[u8], q: usize, total: u64, c: u64, sum: u64) -> Step
 }
 
 // The run at `at`, before which there are `had` readings and the sum n.
-fn scan_run(s: &[u8], at: usize, had: u64, n: u64) -> Step
+fn scan_run(table: &[i8; 256], s: &[u8], at: usize, had: u64, n: u64) -> Step
     requires { ⌜ (at < length (now s)) × (had ≤ limit) ⌝ }
+    requires { ⌜ now table ≡ short ⌝ }
     ensures { λ r. ⌜ stepOf r ≡ deltaRun (now (s .entry)) (sofar at had n) .next ⌝ }
 {
-    match run_head::head_at(s, at, had) {
-        Head::Repeat(c, q) => scan_repeat(s, q, had, c, n),
-        Head::Literal(c, q) => scan_literal(s, q, had + c, c, n),
+    match head_of(table, s, at, had) {
+        Head::Repeat(c, q) => scan_repeat(table, s, q, had, c, n),
+        Head::Literal(c, q) => scan_literal(table, s, q, had + c, c, n),
         Head::Absent(c, next) => Step::On(next, had + c, n),
         Head::Refused(k, place) => Step::Off(k, place),
     }
 }
 
 // How many of c literal differences from q on can be read and added to the sum `sum`, up to the first that cannot.
-fn read_literals(s: &[u8], q: usize, c: u64, sum: u64) -> u64
+fn read_literals(table: &[i8; 256], s: &[u8], q: usize, c: u64, sum: u64) -> u64
+    requires { ⌜ now table ≡ short ⌝ }
     ensures { λ r. ⌜ r ≡ length (summing sum (literals i64E (now (s .entry)) 0 c q) .readings) ⌝ }
 {
     let mut at = q;
     let mut read: u64 = 0;
     let mut n = sum;
     while read < c {
-        match leb128::leb128_i64(s, at) {
+        match difference(table, s, at) {
             ParsedI64::Number(d, next) => match add(n, d) {
                 Sum::Is(m) => {
                     at = next;
@@ -120,17 +143,18 @@ fn read_literals(s: &[u8], q: usize, c: u64, sum: u64) -> u64
 }
 
 // How many readings of the run at `at` stand before its fault; all, where it has none.
-fn read_run(s: &[u8], at: usize, had: u64, n: u64) -> u64
+fn read_run(table: &[i8; 256], s: &[u8], at: usize, had: u64, n: u64) -> u64
     requires { ⌜ (at < length (now s)) × (had ≤ limit) ⌝ }
+    requires { ⌜ now table ≡ short ⌝ }
     ensures { λ r. ⌜ r ≡ length (deltaRun (now (s .entry)) (sofar at had n) .readings) ⌝ }
     ensures { λ r. ⌜ had + r ≤ limit ⌝ }
 {
-    match run_head::head_at(s, at, had) {
-        Head::Repeat(c, q) => match leb128::leb128_i64(s, q) {
+    match head_of(table, s, at, had) {
+        Head::Repeat(c, q) => match difference(table, s, q) {
             ParsedI64::Number(d, _) => times_held(n, d, c),
             ParsedI64::Refused(_, _) => 0,
         },
-        Head::Literal(c, q) => read_literals(s, q, c, n),
+        Head::Literal(c, q) => read_literals(table, s, q, c, n),
         Head::Absent(c, _) => c,
         Head::Refused(_, _) => 0,
     }
@@ -140,18 +164,19 @@ fn read_run(s: &[u8], at: usize, had: u64, n: u64) -> u64
 pub fn survey(s: &[u8]) -> Survey
     ensures { λ r. ⌜ r ≡ surveyOf (deltaTrace (now (s .entry))) ⌝ }
 {
+    let table = leb128::short_numbers();
     let mut at: usize = 0;
     let mut had: u64 = 0;
     let mut n: u64 = HALF;
     while at < s.len() {
-        match scan_run(s, at, had, n) {
+        match scan_run(&table, s, at, had, n) {
             Step::On(next, h, m) => {
                 at = next;
                 had = h;
                 n = m;
             }
             Step::Off(number, place) => {
-                let read = read_run(s, at, had, n);
+                let read = read_run(&table, s, at, had, n);
                 return Survey {
                     readings: had + read,
                     number: number,
@@ -235,11 +260,12 @@ fn run_sum(s: &[u8], at: usize, had: u64, n: u64) -> u64
 pub fn last_sum(s: &[u8]) -> i64
     ensures { λ r. ⌜ r ≡ lastSum (pos 0) (deltaTrace (now (s .entry)) .readings) ⌝ }
 {
+    let table = leb128::short_numbers();
     let mut at: usize = 0;
     let mut had: u64 = 0;
     let mut n: u64 = HALF;
     while at < s.len() {
-        match scan_run(s, at, had, n) {
+        match scan_run(&table, s, at, had, n) {
             Step::On(next, h, m) => {
                 at = next;
                 had = h;
@@ -308,6 +334,7 @@ fn fill_sums(
 
 // A repeated run of c differences, whose value stands at q, on the sum n.
 fn fill_repeat(
+    table: &[i8; 256],
     s: &[u8],
     q: usize,
     had: u64,
@@ -318,11 +345,12 @@ fn fill_repeat(
 ) -> Step
     requires { ⌜ had + c ≤ limit ⌝ }
     requires { ⌜ Room (summing n (repeated had c q (i64At (now s) q)) .readings) had (now values) (now present) ⌝ }
+    requires { ⌜ now table ≡ short ⌝ }
     ensures { λ r. ⌜ stepOf r ≡ summing n (repeated had c q (i64At (now (s .entry)) q)) .next ⌝ }
     ensures { λ r. ⌜ Wrote (slotOf (pos 0)) flagOf (summing n (repeated had c q (i64At (now (s .entry)) q)) .readings) had
         (now (values .entry)) (now (values .exit)) (now (present .entry)) (now (present .exit)) ⌝ }
 {
-    match leb128::leb128_i64(s, q) {
+    match difference(table, s, q) {
         ParsedI64::Number(d, next) => fill_sums(d, q, next, had, c, n, values, present),
         ParsedI64::Refused(k, place) => Step::Off(k, place),
     }
@@ -330,6 +358,7 @@ fn fill_repeat(
 
 // c literal differences from q on, on the sum `sum`.
 fn fill_literal(
+    table: &[i8; 256],
     s: &[u8],
     q: usize,
     total: u64,
@@ -340,6 +369,7 @@ fn fill_literal(
     present: &mut [u8],
 ) -> Step
     requires { ⌜ Room (summing sum (literals i64E (now s) total c q) .readings) from (now values) (now present) ⌝ }
+    requires { ⌜ now table ≡ short ⌝ }
     ensures { λ r. ⌜ stepOf r ≡ summing sum (literals i64E (now (s .entry)) total c q) .next ⌝ }
     ensures { λ r. ⌜ Wrote (slotOf (pos 0)) flagOf (summing sum (literals i64E (now (s .entry)) total c q) .readings) from
         (now (values .entry)) (now (values .exit)) (now (present .entry)) (now (present .exit)) ⌝ }
@@ -349,7 +379,7 @@ fn fill_literal(
     let mut left = c;
     let mut n = sum;
     while 0 < left {
-        match leb128::leb128_i64(s, at) {
+        match difference(table, s, at) {
             ParsedI64::Number(d, next) => match add(n, d) {
                 Sum::Is(m) => {
                     values[i] = sum_of(m);
@@ -372,16 +402,35 @@ fn fill_literal(
 }
 
 // The run at `at`, before which there are `had` readings and the sum n.
-fn fill_run(s: &[u8], at: usize, had: u64, n: u64, values: &mut [i64], present: &mut [u8]) -> Step
+fn fill_run(
+    table: &[i8; 256],
+    s: &[u8],
+    at: usize,
+    had: u64,
+    n: u64,
+    values: &mut [i64],
+    present: &mut [u8],
+) -> Step
     requires { ⌜ (at < length (now s)) × (had ≤ limit) ⌝ }
     requires { ⌜ Room (deltaRun (now s) (sofar at had n) .readings) had (now values) (now present) ⌝ }
+    requires { ⌜ now table ≡ short ⌝ }
     ensures { λ r. ⌜ stepOf r ≡ deltaRun (now (s .entry)) (sofar at had n) .next ⌝ }
     ensures { λ r. ⌜ Wrote (slotOf (pos 0)) flagOf (deltaRun (now (s .entry)) (sofar at had n) .readings) had
         (now (values .entry)) (now (values .exit)) (now (present .entry)) (now (present .exit)) ⌝ }
 {
-    match run_head::head_at(s, at, had) {
-        Head::Repeat(c, q) => fill_repeat(s, q, had, c, n, values, present),
-        Head::Literal(c, q) => fill_literal(s, q, had + c, c, had as usize, n, values, present),
+    match head_of(table, s, at, had) {
+        Head::Repeat(c, q) => fill_repeat(table, s, q, had, c, n, values, present),
+        Head::Literal(c, q) => fill_literal(
+            table,
+            s,
+            q,
+            had + c,
+            c,
+            had as usize,
+            n,
+            values,
+            present,
+        ),
         Head::Absent(c, next) => {
             fill_absent(values, present, had as usize, c);
             Step::On(next, had + c, n)
@@ -397,11 +446,12 @@ fn fill(s: &[u8], values: &mut [i64], present: &mut [u8]) -> Answer
     ensures { λ r. ⌜ Wrote (slotOf (pos 0)) flagOf (deltaTrace (now (s .entry)) .readings) 0
         (now (values .entry)) (now (values .exit)) (now (present .entry)) (now (present .exit)) ⌝ }
 {
+    let table = leb128::short_numbers();
     let mut at: usize = 0;
     let mut had: u64 = 0;
     let mut n: u64 = HALF;
     while at < s.len() {
-        match fill_run(s, at, had, n, values, present) {
+        match fill_run(&table, s, at, had, n, values, present) {
             Step::On(next, h, m) => {
                 at = next;
                 had = h;

@@ -5,6 +5,7 @@ pub mod Elements
 pub mod Faults
 pub mod Filling
 pub mod Fronts
+pub mod Heads
 pub mod Limits
 pub mod Lists
 pub mod Looking

@@ -7,6 +7,7 @@ use lib.Dec.{leb, eqb}
 use lib.IntN.{ℤ, pos, negsuc}
 use Rattle.leb128.specs.Got.{Got, got, bad}
 use Rattle.leb128.specs.Read.{u64At, i64At}
+use Rattle.leb128.specs.Short.{i64By}
 use Rattle.encoding.specs.Limit.{limit}
 
 -- so many times the value at a position; so many literal values from a position on; so many absent readings, with the position behind
@@ -34,3 +35,7 @@ begun s at had (bad number place) = amiss number place
 -- how the run at a position begins, before which there are `had` readings
 unfoldable pub headAt : List ℕ → ℕ → ℕ → Head
 headAt s at had = begun s at had (i64At s at)
+
+-- the same, where a count of one byte is answered by the table that is lent
+unfoldable pub headBy : List ℤ → List ℕ → ℕ → ℕ → Head
+headBy table s at had = begun s at had (i64By table s at)

@@ -1,6 +1,7 @@
 pub mod Back
 pub mod Encoded
 pub mod Laws
+pub mod Lookup
 pub mod Only
 pub mod Refusals
 pub mod Scanning

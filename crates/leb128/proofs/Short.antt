@@ -11,7 +11,7 @@ use Rattle.leb128.specs.Digits.{whole, digits}
 use Rattle.leb128.specs.Read.{u64At}
 
 module _ (s : List ℕ) (at : ℕ) (h : at < length s) where
-  one-digit : getD s at 0 < 128 → digits 0 0 (drop at s) ≡ whole 0 1 0 (getD s at 0) 1
+  pub one-digit : getD s at 0 < 128 → digits 0 0 (drop at s) ≡ whole 0 1 0 (getD s at 0) 1
   one-digit b = rw (drop-cons s at 0 h, lt-ltb (getD s at 0) 128 b)
 
   pub one-u64 : getD s at 0 < 128 → got (getD s at 0) (at + 1) ≡ u64At s at

@@ -7,6 +7,7 @@ ghost use lib.Signed.{mag};
 ghost use Rattle.leb128.specs.Cases.{digitsOf, u64Of, i64Of, u32Of};
 ghost use Rattle.leb128.specs.Digits.{digits, whole};
 ghost use Rattle.leb128.specs.Read.{unsigned, signed, fill, u64At, i64At, u32At, nonzeroAt};
+ghost use Rattle.leb128.specs.Short.{short, i64By};
 ghost use Rattle.leb128.specs.Sound.{Sound};
 
 // A number's bytes up to its final byte: what the bytes before it add up to, what the final byte counts for, the byte before it (0 where
@@ -42,6 +43,19 @@ fn wide(b: u8) -> u64
     ensures { λ r. ⌜ r ≡ b ⌝ }
 {
     b as u64
+}
+
+// A first byte as the place of its entry, and an entry as the number.
+fn place_of(b: u8) -> usize
+    ensures { λ r. ⌜ (r ≡ b) × (r < 256) ⌝ }
+{
+    b as usize
+}
+
+fn number_of(x: i8) -> i64
+    ensures { λ r. ⌜ r ≡ x ⌝ }
+{
+    x as i64
 }
 
 fn digits_at(s: &[u8], at: usize) -> Digits
@@ -171,8 +185,278 @@ fn i64_of(at: usize, low: u64, scale: u64, prev: u8, last: u8, count: usize) -> 
     }
 }
 
-// The i64 at a position, or its refusal.
-pub fn leb128_i64(s: &[u8], at: usize) -> ParsedI64
+// The mark that more bytes follow: no number of one byte.
+const MORE: i8 = -128;
+
+// For each first byte the signed number that it stands for alone, or MORE.
+const SHORT: [i8; 256] = [
+    0,
+    1,
+    2,
+    3,
+    4,
+    5,
+    6,
+    7,
+    8,
+    9,
+    10,
+    11,
+    12,
+    13,
+    14,
+    15,
+    16,
+    17,
+    18,
+    19,
+    20,
+    21,
+    22,
+    23,
+    24,
+    25,
+    26,
+    27,
+    28,
+    29,
+    30,
+    31,
+    32,
+    33,
+    34,
+    35,
+    36,
+    37,
+    38,
+    39,
+    40,
+    41,
+    42,
+    43,
+    44,
+    45,
+    46,
+    47,
+    48,
+    49,
+    50,
+    51,
+    52,
+    53,
+    54,
+    55,
+    56,
+    57,
+    58,
+    59,
+    60,
+    61,
+    62,
+    63,
+    -64,
+    -63,
+    -62,
+    -61,
+    -60,
+    -59,
+    -58,
+    -57,
+    -56,
+    -55,
+    -54,
+    -53,
+    -52,
+    -51,
+    -50,
+    -49,
+    -48,
+    -47,
+    -46,
+    -45,
+    -44,
+    -43,
+    -42,
+    -41,
+    -40,
+    -39,
+    -38,
+    -37,
+    -36,
+    -35,
+    -34,
+    -33,
+    -32,
+    -31,
+    -30,
+    -29,
+    -28,
+    -27,
+    -26,
+    -25,
+    -24,
+    -23,
+    -22,
+    -21,
+    -20,
+    -19,
+    -18,
+    -17,
+    -16,
+    -15,
+    -14,
+    -13,
+    -12,
+    -11,
+    -10,
+    -9,
+    -8,
+    -7,
+    -6,
+    -5,
+    -4,
+    -3,
+    -2,
+    -1,
+    -128,
+    -128,
+    -128,
+    -128,
+    -128,
+    -128,
+    -128,
+    -128,
+    -128,
+    -128,
+    -128,
+    -128,
+    -128,
+    -128,
+    -128,
+    -128,
+    -128,
+    -128,
+    -128,
+    -128,
+    -128,
+    -128,
+    -128,
+    -128,
+    -128,
+    -128,
+    -128,
+    -128,
+    -128,
+    -128,
+    -128,
+    -128,
+    -128,
+    -128,
+    -128,
+    -128,
+    -128,
+    -128,
+    -128,
+    -128,
+    -128,
+    -128,
+    -128,
+    -128,
+    -128,
+    -128,
+    -128,
+    -128,
+    -128,
+    -128,
+    -128,
+    -128,
+    -128,
+    -128,
+    -128,
+    -128,
+    -128,
+    -128,
+    -128,
+    -128,
+    -128,
+    -128,
+    -128,
+    -128,
+    -128,
+    -128,
+    -128,
+    -128,
+    -128,
+    -128,
+    -128,
+    -128,
+    -128,
+    -128,
+    -128,
+    -128,
+    -128,
+    -128,
+    -128,
+    -128,
+    -128,
+    -128,
+    -128,
+    -128,
+    -128,
+    -128,
+    -128,
+    -128,
+    -128,
+    -128,
+    -128,
+    -128,
+    -128,
+    -128,
+    -128,
+    -128,
+    -128,
+    -128,
+    -128,
+    -128,
+    -128,
+    -128,
+    -128,
+    -128,
+    -128,
+    -128,
+    -128,
+    -128,
+    -128,
+    -128,
+    -128,
+    -128,
+    -128,
+    -128,
+    -128,
+    -128,
+    -128,
+    -128,
+    -128,
+    -128,
+    -128,
+    -128,
+    -128,
+    -128,
+    -128,
+    -128,
+    -128,
+    -128,
+];
+
+// The table, for whoever reads many numbers and lends it. Rattle has no static data: it is made on the stack wherever it is named.
+pub fn short_numbers() -> [i8; 256]
+    ensures { λ r. ⌜ r ≡ short ⌝ }
+{
+    SHORT
+}
+
+// The i64 at a position, or its refusal, by its bytes alone: for whoever reads one at a call and would make the table for it.
+pub fn i64_by_bytes(s: &[u8], at: usize) -> ParsedI64
     ensures { λ r. ⌜ i64Of r ≡ i64At (now (s .entry)) at ⌝ }
 {
     match digits_at(s, at) {
@@ -185,6 +469,33 @@ pub fn leb128_i64(s: &[u8], at: usize) -> ParsedI64
         } => i64_of(at, low, scale, prev, last, count),
         Digits::Broken(r) => ParsedI64::Refused(r, if at < s.len() { at } else { s.len() }),
     }
+}
+
+// The i64 at a position, or its refusal: a number of one byte from the table that is lent.
+pub fn i64_by(table: &[i8; 256], s: &[u8], at: usize) -> ParsedI64
+    ensures { λ r. ⌜ i64Of r ≡ i64By (now (table .entry)) (now (s .entry)) at ⌝ }
+{
+    if at < s.len() {
+        let b = place_of(s[at]);
+        let x = table[b];
+        if x != MORE {
+            return ParsedI64::Number(number_of(x), at + 1);
+        }
+    }
+    i64_by_bytes(s, at)
+}
+
+// The i64 at a position, or its refusal. The table is made where the first byte is the only one.
+pub fn leb128_i64(s: &[u8], at: usize) -> ParsedI64
+    ensures { λ r. ⌜ i64Of r ≡ i64At (now (s .entry)) at ⌝ }
+{
+    if at < s.len() {
+        let first = place_of(s[at]);
+        if first < 128 {
+            return ParsedI64::Number(number_of(SHORT[first]), at + 1);
+        }
+    }
+    i64_by_bytes(s, at)
 }
 
 // The u32 at a position, read as a u64 first, or its refusal.

@@ -5,8 +5,10 @@ ghost use Prim.Native.Nat.{_+_, _≤_, _<_};
 ghost use lib.ListN.{length, replicate};
 ghost use lib.Seq.{sets};
 ghost use Rattle.leb128.specs.Read.{u64At};
-ghost use Rattle.encoding.specs.Cases.{answerOf};
+ghost use Rattle.leb128.specs.Short.{short};
+ghost use Rattle.encoding.specs.Cases.{answerOf, headOf};
 ghost use Rattle.encoding.specs.Column.{spot, repeated, literals, runAt, trace};
+ghost use Rattle.encoding.specs.Head.{headAt};
 ghost use Rattle.encoding.specs.Limit.{limit};
 ghost use Rattle.encoding.specs.Slots.{slotOf, flagOf, Decoded, Room, Wrote};
 ghost use Rattle.encoding.specs.Survivors.{surveyOf, surviving};
@@ -22,6 +24,14 @@ use leb128::ParsedU64;
 enum Step {
     On(usize, u64),
     Off(u8, usize),
+}
+
+// How the run at `at` begins, by the fixed table.
+fn head_of(table: &[i8; 256], s: &[u8], at: usize, had: u64) -> Head
+    requires { ⌜ now table ≡ short ⌝ }
+    ensures { λ r. ⌜ headOf r ≡ headAt (now (s .entry)) at had ⌝ }
+{
+    run_head::head_by(table, s, at, had)
 }
 
 // A repeated run of c readings, whose value stands at q.
@@ -56,11 +66,12 @@ fn scan_literal(s: &[u8], q: usize, total: u64, c: u64) -> Step
 }
 
 // The run at `at`, before which there are `had` readings.
-fn scan_run(s: &[u8], at: usize, had: u64) -> Step
+fn scan_run(table: &[i8; 256], s: &[u8], at: usize, had: u64) -> Step
     requires { ⌜ (at < length (now s)) × (had ≤ limit) ⌝ }
+    requires { ⌜ now table ≡ short ⌝ }
     ensures { λ r. ⌜ stepOf r ≡ runAt u64E (now (s .entry)) (spot at had) .next ⌝ }
 {
-    match run_head::head_at(s, at, had) {
+    match head_of(table, s, at, had) {
         Head::Repeat(c, q) => scan_repeat(s, q, had, c),
         Head::Literal(c, q) => scan_literal(s, q, had + c, c),
         Head::Absent(c, next) => Step::On(next, had + c),
@@ -89,12 +100,13 @@ fn read_literals(s: &[u8], q: usize, c: u64) -> u64
 }
 
 // How many readings of the run at `at` stand before its fault; all, where it has none.
-fn read_run(s: &[u8], at: usize, had: u64) -> u64
+fn read_run(table: &[i8; 256], s: &[u8], at: usize, had: u64) -> u64
     requires { ⌜ (at < length (now s)) × (had ≤ limit) ⌝ }
+    requires { ⌜ now table ≡ short ⌝ }
     ensures { λ r. ⌜ r ≡ length (runAt u64E (now (s .entry)) (spot at had) .readings) ⌝ }
     ensures { λ r. ⌜ had + r ≤ limit ⌝ }
 {
-    match run_head::head_at(s, at, had) {
+    match head_of(table, s, at, had) {
         Head::Repeat(c, q) => match leb128::leb128_u64(s, q) {
             ParsedU64::Number(_, _) => c,
             ParsedU64::Refused(_, _) => 0,
@@ -109,16 +121,17 @@ fn read_run(s: &[u8], at: usize, had: u64) -> u64
 pub fn survey(s: &[u8]) -> Survey
     ensures { λ r. ⌜ r ≡ surveyOf (trace u64E (now (s .entry))) ⌝ }
 {
+    let table = leb128::short_numbers();
     let mut at: usize = 0;
     let mut had: u64 = 0;
     while at < s.len() {
-        match scan_run(s, at, had) {
+        match scan_run(&table, s, at, had) {
             Step::On(next, n) => {
                 at = next;
                 had = n;
             }
             Step::Off(number, place) => {
-                let read = read_run(s, at, had);
+                let read = read_run(&table, s, at, had);
                 return Survey {
                     readings: had + read,
                     number: number,
@@ -214,14 +227,22 @@ fn fill_literal(
 }
 
 // The run at `at`, before which there are `had` readings.
-fn fill_run(s: &[u8], at: usize, had: u64, values: &mut [u64], present: &mut [u8]) -> Step
+fn fill_run(
+    table: &[i8; 256],
+    s: &[u8],
+    at: usize,
+    had: u64,
+    values: &mut [u64],
+    present: &mut [u8],
+) -> Step
     requires { ⌜ (at < length (now s)) × (had ≤ limit) ⌝ }
     requires { ⌜ Room (runAt u64E (now s) (spot at had) .readings) had (now values) (now present) ⌝ }
+    requires { ⌜ now table ≡ short ⌝ }
     ensures { λ r. ⌜ stepOf r ≡ runAt u64E (now (s .entry)) (spot at had) .next ⌝ }
     ensures { λ r. ⌜ Wrote (slotOf 0) flagOf (runAt u64E (now (s .entry)) (spot at had) .readings) had
         (now (values .entry)) (now (values .exit)) (now (present .entry)) (now (present .exit)) ⌝ }
 {
-    match run_head::head_at(s, at, had) {
+    match head_of(table, s, at, had) {
         Head::Repeat(c, q) => fill_repeat(s, q, had, c, values, present),
         Head::Literal(c, q) => fill_literal(s, q, had + c, c, had as usize, values, present),
         Head::Absent(c, next) => {
@@ -239,10 +260,11 @@ fn fill(s: &[u8], values: &mut [u64], present: &mut [u8]) -> Answer
     ensures { λ r. ⌜ Wrote (slotOf 0) flagOf (trace u64E (now (s .entry)) .readings) 0
         (now (values .entry)) (now (values .exit)) (now (present .entry)) (now (present .exit)) ⌝ }
 {
+    let table = leb128::short_numbers();
     let mut at: usize = 0;
     let mut filled: u64 = 0;
     while at < s.len() {
-        match fill_run(s, at, filled, values, present) {
+        match fill_run(&table, s, at, filled, values, present) {
             Step::On(next, n) => {
                 at = next;
                 filled = n;

@@ -3,9 +3,10 @@ ghost use mathlib.Core.Path.{_≡_};
 ghost use Prim.Native.Nat.{_+_};
 ghost use lib.Dec.{leb};
 ghost use lib.IntN.{natAbs};
+ghost use Rattle.leb128.specs.Got.{got};
 ghost use Rattle.leb128.specs.Read.{u64At};
 ghost use Rattle.encoding.specs.Limit.{limit};
-ghost use Rattle.encoding.specs.Head.{repeat, literal, judged, absentHead, headAt};
+ghost use Rattle.encoding.specs.Head.{repeat, literal, judged, absentHead, begun, headAt, headBy};
 ghost use Rattle.encoding.specs.Cases.{headOf};
 use encoding::Head;
 use encoding::LIMIT;
@@ -66,20 +67,35 @@ fn count_of(c: i64) -> u64
     if c < 0 { !c as u64 + 1 } else { c as u64 }
 }
 
+// The run whose signed count c stands at `at`, before q.
+fn begun_at(s: &[u8], at: usize, had: u64, c: i64, q: usize) -> Head
+    ensures { λ r. ⌜ headOf r ≡ begun (now (s .entry)) at had (got c q) ⌝ }
+{
+    if c < 0 {
+        return literal_at(at, had, count_of(c), q);
+    }
+    if c == 0 {
+        return absent_at(s, q, had);
+    }
+    repeat_at(at, had, count_of(c), q)
+}
+
 // How the run at `at` begins, before which there are `had` readings.
 pub fn head_at(s: &[u8], at: usize, had: u64) -> Head
     ensures { λ r. ⌜ headOf r ≡ headAt (now (s .entry)) at had ⌝ }
 {
-    match leb128::leb128_i64(s, at) {
-        ParsedI64::Number(c, q) => {
-            if c < 0 {
-                return literal_at(at, had, count_of(c), q);
-            }
-            if c == 0 {
-                return absent_at(s, q, had);
-            }
-            repeat_at(at, had, count_of(c), q)
-        }
+    match leb128::i64_by_bytes(s, at) {
+        ParsedI64::Number(c, q) => begun_at(s, at, had, c, q),
+        ParsedI64::Refused(n, place) => Head::Refused(n, place),
+    }
+}
+
+// The same by a table that is lent, for whoever reads many.
+pub fn head_by(table: &[i8; 256], s: &[u8], at: usize, had: u64) -> Head
+    ensures { λ r. ⌜ headOf r ≡ headBy (now (table .entry)) (now (s .entry)) at had ⌝ }
+{
+    match leb128::i64_by(table, s, at) {
+        ParsedI64::Number(c, q) => begun_at(s, at, had, c, q),
         ParsedI64::Refused(n, place) => Head::Refused(n, place),
     }
 }

@@ -11,8 +11,8 @@ use Rattle.cursor.specs.Kept.{sortOf}
 use Rattle.delta_cursor.proofs.carried_at.Statement.{statement}
 use Rattle.delta_cursor.proofs.carried_at.Tie as tie
 
-leb128-i64-requires : tie.Need-leb128-i64-requires
-leb128-i64-requires c κs = search needs
+i64-by-bytes-requires : tie.Need-i64-by-bytes-requires
+i64-by-bytes-requires c κs = search needs
 
 enum-known-d : tie.Need-enum-known-d
 enum-known-d c = search needs
@@ -28,11 +28,11 @@ unfolding carried sortOf
 returns c =
     let d = c .before .d .given .0 .0 in
     let f : SFits w64 d = search needs in
-    rw (toZ-ofZ w64 d f) (sym (ap (carried _ _ _) (via i64Of (c .before .before .before .leb128-i64 .ensures) (c .before .d .given .1))))
+    rw (toZ-ofZ w64 d f) (sym (ap (carried _ _ _) (via i64Of (c .before .before .before .i64-by-bytes .ensures) (c .before .d .given .1))))
 
 returns-2 : tie.Need-returns-2
 unfolding carried
-returns-2 c = sym (ap (carried _ _ _) (via i64Of (c .before .before .before .leb128-i64 .ensures) (c .before .n .given .1)))
+returns-2 c = sym (ap (carried _ _ _) (via i64Of (c .before .before .before .i64-by-bytes .ensures) (c .before .n .given .1)))
 
 pub carried-at-spec : {M : Type 1} → statement M
-carried-at-spec = tie.close (tie.spec leb128-i64-requires enum-known-d add-t11 enum-known-n returns returns-2)
+carried-at-spec = tie.close (tie.spec i64-by-bytes-requires enum-known-d add-t11 enum-known-n returns returns-2)

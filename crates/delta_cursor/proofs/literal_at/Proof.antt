@@ -11,8 +11,8 @@ use Rattle.delta_cursor.proofs.Outs.{out-by, literal-is, literal-outsid
 use Rattle.delta_cursor.proofs.literal_at.Statement.{statement}
 use Rattle.delta_cursor.proofs.literal_at.Tie as tie
 
-leb128-i64-requires : tie.Need-leb128-i64-requires
-leb128-i64-requires c κs = search needs
+i64-by-bytes-requires : tie.Need-i64-by-bytes-requires
+i64-by-bytes-requires c κs = search needs
 
 enum-known-d : tie.Need-enum-known-d
 enum-known-d c = search needs
@@ -46,7 +46,7 @@ returns c =
     let fd : SFits w64 d = search needs in
     let h = rw (toZ-ofZ w64 (a .lent .sum) fs, toZ-ofZ w64 d fd) at (via sumOf (c .before .before .before .before .before .add .ensures) (c .before .before .before .z .given .1)) in
     let e = rw (toZ-ofZ w64 z fz) at (c .bare .ensures) in
-    rw (toZ-ofZ w64 z fz) (out-by e ∙ sym (literal-is (a .lent) (a .c) (via i64Of (c .before .before .before .before .before .before .before .before .before .before .leb128-i64 .ensures) (c .before .before .before .before .before .before .before .before .d .given .1)) h))
+    rw (toZ-ofZ w64 z fz) (out-by e ∙ sym (literal-is (a .lent) (a .c) (via i64Of (c .before .before .before .before .before .before .before .before .before .before .i64-by-bytes .ensures) (c .before .before .before .before .before .before .before .before .d .given .1)) h))
 
 returns-2 : tie.Need-returns-2
 returns-2 c =
@@ -55,18 +55,18 @@ returns-2 c =
     let fs : SFits w64 (a .lent .sum) = search needs in
     let fd : SFits w64 d = search needs in
     let h = rw (toZ-ofZ w64 (a .lent .sum) fs, toZ-ofZ w64 d fd) at (via sumOf (c .before .before .add .ensures) (c .enum-told .given .1)) in
-    sym (literal-outside (a .lent) (a .c) (via i64Of (c .before .before .before .before .before .before .before .leb128-i64 .ensures) (c .before .before .before .before .before .d .given .1)) h)
+    sym (literal-outside (a .lent) (a .c) (via i64Of (c .before .before .before .before .before .before .before .i64-by-bytes .ensures) (c .before .before .before .before .before .d .given .1)) h)
 
 returns-3 : tie.Need-returns-3
 returns-3 c =
     let a = c .before .before .before .before .before .args in
-    sym (literal-bad (a .lent) (a .c) (via i64Of (c .before .before .before .leb128-i64 .ensures) (c .before .n .given .1)))
+    sym (literal-bad (a .lent) (a .c) (via i64Of (c .before .before .before .i64-by-bytes .ensures) (c .before .n .given .1)))
 
 pub literal-at-spec : {M : Type 1} → statement M
 literal-at-spec =
     tie.close
     (tie.spec
-    leb128-i64-requires
+    i64-by-bytes-requires
     enum-known-d
     add-requires
     enum-known-z

@@ -15,19 +15,22 @@ use Rattle.delta_decoder.proofs.fill.Statement.{statement}
 use Rattle.delta_decoder.proofs.fill.Tie as tie
 
 abbrev Inv-loop : tie.InvT-loop
-Inv-loop s values₀ present₀ at₀ had₀ n₀ values present at had n =
+Inv-loop s values₀ present₀ table at₀ had₀ n₀ values present at had n =
     Owed (deltas s) (slotOf (pos 0)) flagOf (sofar 0 0 (2 ^ 63)) values₀ values present₀ present (sofar at had n)
 
 abbrev μ-loop : tie.MeasureT-loop
-μ-loop s values₀ present₀ at₀ had₀ n₀ values present at had n = length s - at
+μ-loop s values₀ present₀ table at₀ had₀ n₀ values present at had n = length s - at
+
+short-numbers-requires : tie.Need-short-numbers-requires Inv-loop μ-loop
+short-numbers-requires c κs = search needs
 
 loop-holds : tie.Need-loop-holds Inv-loop μ-loop
-loop-holds c = owed-start (deltas _) (slotOf (pos 0)) flagOf (sofar 0 0 (2 ^ 63)) refl _ _ (rw delta-rest at (c .before .before .pre))
+loop-holds c = owed-start (deltas _) (slotOf (pos 0)) flagOf (sofar 0 0 (2 ^ 63)) refl _ _ (rw delta-rest at (c .before .before .before .pre))
 
 fill-run-requires : tie.Need-fill-run-requires Inv-loop μ-loop
 fill-run-requires c κs =
-    let o = c .before .before .before .loop .inv in
-    (search needs, owed-room (deltas _) (slotOf (pos 0)) flagOf (sofar 0 0 (2 ^ 63)) refl _ _ _ _ _ o)
+    let o = c .before .before .before .before .loop .inv in
+    (search needs, (owed-room (deltas _) (slotOf (pos 0)) flagOf (sofar 0 0 (2 ^ 63)) refl _ _ _ _ _ o, c .before .before .before .before .before .short-numbers .ensures))
 
 enum-known-next : tie.Need-enum-known-next Inv-loop μ-loop
 enum-known-next c = search needs
@@ -37,9 +40,8 @@ loop-less c = deltas _ .falls _ _ (via stepOf (c .before .before .before .before
 
 loop-again : tie.Need-loop-again Inv-loop μ-loop
 loop-again c =
-    let b = c .before .before .before .before .before .before in
-    let o = b .before .before .before .before .loop .inv in
-    let w = b .fill-run .ensures in
+    let o = c .before .before .before .before .before .before .before .before .before .before .before .loop .inv in
+    let w = c .before .before .before .before .before .before .fill-run .ensures in
     owed-on (deltas _) (slotOf (pos 0)) flagOf (sofar 0 0 (2 ^ 63)) refl _ _ _ _ _ o _ _ _ (w .1) (via stepOf (w .0) (c .before .next .given .1))
 
 enum-known-k : tie.Need-enum-known-k Inv-loop μ-loop
@@ -47,21 +49,18 @@ enum-known-k c = search needs
 
 same-length : tie.Need-same-length Inv-loop μ-loop
 same-length c =
-    let b = c .before .before .before .before .before .before in
-    let o = b .before .before .before .before .loop .inv in
-    b .fill-run .kept .1 .1 .1 .1 .0 ∙ o .same-v
+    let o = c .before .before .before .before .before .before .before .before .before .before .before .loop .inv in
+    c .before .before .before .before .before .before .fill-run .kept .1 .1 .1 .1 .1 .0 ∙ o .same-v
 
 same-length-2 : tie.Need-same-length-2 Inv-loop μ-loop
 same-length-2 c =
-    let b = c .before .before .before .before .before .before in
-    let o = b .before .before .before .before .loop .inv in
-    b .fill-run .kept .1 .1 .1 .1 .1 .0 ∙ o .same-p
+    let o = c .before .before .before .before .before .before .before .before .before .before .before .loop .inv in
+    c .before .before .before .before .before .before .fill-run .kept .1 .1 .1 .1 .1 .1 .0 ∙ o .same-p
 
 returns : tie.Need-returns Inv-loop μ-loop
 returns c =
-    let b = c .before .before .before .before .before .before in
-    let o = b .before .before .before .before .loop .inv in
-    let w = b .fill-run .ensures in
+    let o = c .before .before .before .before .before .before .before .before .before .before .before .loop .inv in
+    let w = c .before .before .before .before .before .before .fill-run .ensures in
     rw delta-rest
     (owed-off (deltas _) (slotOf (pos 0)) flagOf (sofar 0 0 (2 ^ 63)) refl _ _ _ _ _ o _ _ _ _ (w .1) (via stepOf (w .0) (c .before .k .given .1)))
 
@@ -83,6 +82,7 @@ fill-spec =
     (tie.spec
     Inv-loop
     μ-loop
+    short-numbers-requires
     loop-holds
     fill-run-requires
     enum-known-next

@@ -20,18 +20,18 @@ use Rattle.delta_decoder.proofs.fill_literal.Statement.{statement}
 use Rattle.delta_decoder.proofs.fill_literal.Tie as tie
 
 abbrev Inv-loop : tie.InvT-loop
-Inv-loop s q total c from sum values₀ present₀ at₀ i₀ left₀ n₀ values present at i left n =
+Inv-loop table s q total c from sum values₀ present₀ at₀ i₀ left₀ n₀ values present at i left n =
     Partly (slotOf (pos 0)) flagOf (summing sum (literals i64E s total c q)) from values₀ present₀
     (summing n (literals i64E s total left at)) i values present
 
 abbrev μ-loop : tie.MeasureT-loop
-μ-loop s q total c from sum values₀ present₀ at₀ i₀ left₀ n₀ values present at i left n = left
+μ-loop table s q total c from sum values₀ present₀ at₀ i₀ left₀ n₀ values present at i left n = left
 
 loop-holds : tie.Need-loop-holds Inv-loop μ-loop
-loop-holds c = partly-start (c .before .before .pre)
+loop-holds c = partly-start (c .before .before .pre .0)
 
-leb128-i64-requires : tie.Need-leb128-i64-requires Inv-loop μ-loop
-leb128-i64-requires c κs = search needs
+difference-requires : tie.Need-difference-requires Inv-loop μ-loop
+difference-requires c κs = search needs
 
 enum-known-d : tie.Need-enum-known-d Inv-loop μ-loop
 enum-known-d c = search needs
@@ -45,8 +45,8 @@ enum-known-m c = search needs
 sum-of-requires : tie.Need-sum-of-requires Inv-loop μ-loop
 sum-of-requires c κs = search needs
 
-mul-t22 : tie.Need-mul-t22 Inv-loop μ-loop
-mul-t22 c = search needs
+mul-t23 : tie.Need-mul-t23 Inv-loop μ-loop
+mul-t23 c = search needs
 
 slice-set-from-values : tie.Need-slice-set-from-values Inv-loop μ-loop
 slice-set-from-values c =
@@ -55,7 +55,7 @@ slice-set-from-values c =
     let l = p .before .before .before .before in
     let d = p .d .given .0 .0 in
     let f : SFits w64 d = search needs in
-    let r = via i64Of (p .before .before .leb128-i64 .ensures) (p .d .given .1) in
+    let r = via i64Of (p .before .before .difference .ensures) (p .d .given .1) in
     let t = rw (toZ-ofZ w64 d f) at (via sumIs (b .add .ensures) (c .before .before .m .given .1)) in
     let e = literals-on i64E _ _ _ _ _ _ (p .before .before .before .loop-test .taken) r in
     partly-room (l .loop .inv) (summing-on _ e _ t)
@@ -79,7 +79,7 @@ loop-again c =
     let l = p .before .before .before .before in
     let d = p .d .given .0 .0 in
     let f : SFits w64 d = search needs in
-    let r = via i64Of (p .before .before .leb128-i64 .ensures) (p .d .given .1) in
+    let r = via i64Of (p .before .before .difference .ensures) (p .d .given .1) in
     let t = rw (toZ-ofZ w64 d f) at (via sumIs (b .add .ensures) (c .before .before .m .given .1)) in
     let e = literals-on i64E _ _ _ _ _ _ (p .before .before .before .loop-test .taken) r in
     let g : SFits w64 (c .sum-of .result) = search needs in
@@ -102,7 +102,7 @@ returns c =
     let l = p .before .before .before .before in
     let d = p .d .given .0 .0 in
     let f : SFits w64 d = search needs in
-    let r = via i64Of (p .before .before .leb128-i64 .ensures) (p .d .given .1) in
+    let r = via i64Of (p .before .before .difference .ensures) (p .d .given .1) in
     let t = rw (toZ-ofZ w64 d f) at (via sumIs (b .add .ensures) (c .enum-told .given .1)) in
     let e = literals-on i64E _ _ _ _ _ _ (p .before .before .before .loop-test .taken) r in
     partly-end (l .loop .inv) (summing-out _ e t)
@@ -119,7 +119,7 @@ same-length-4 c = c .before .before .before .before .before .loop .inv .same-p
 returns-2 : tie.Need-returns-2 Inv-loop μ-loop
 returns-2 c =
     let b = c .before .before .before in
-    let r = via i64Of (b .leb128-i64 .ensures) (c .before .k .given .1) in
+    let r = via i64Of (b .difference .ensures) (c .before .k .given .1) in
     let e = literals-off i64E _ _ _ _ _ _ (b .before .loop-test .taken) r in
     partly-end (b .before .before .loop .inv) (summing-end _ e)
 
@@ -139,12 +139,12 @@ fill-literal-spec =
     Inv-loop
     μ-loop
     loop-holds
-    leb128-i64-requires
+    difference-requires
     enum-known-d
     add-requires
     enum-known-m
     sum-of-requires
-    mul-t22
+    mul-t23
     slice-set-from-values
     slice-write-present
     add-i

@@ -15,20 +15,23 @@ use Rattle.delta_decoder.proofs.Summing.{summing-end}
 use Rattle.delta_decoder.proofs.fill_repeat.Statement.{statement}
 use Rattle.delta_decoder.proofs.fill_repeat.Tie as tie
 
-leb128-i64-requires : tie.Need-leb128-i64-requires
-leb128-i64-requires c κs = search needs
+difference-requires : tie.Need-difference-requires
+difference-requires c κs = search needs
 
 enum-known-d : tie.Need-enum-known-d
 enum-known-d c = search needs
 
+held : (c : tie.After-known-told) → SFits w64 (c .before .d .given .0 .0)
+held c = search needs
+
 fill-sums-requires : tie.Need-fill-sums-requires
 fill-sums-requires c κs =
-    let p = c .before .before .before in
+    let k = c .before .before in
+    let p = k .before in
     let b = p .before .before in
     let h = b .before .before .before .pre in
     let d = p .d .given .0 .0 in
-    let f : SFits w64 d = search needs in
-    (h .0, rw (toZ-ofZ w64 d f) (rw (via i64Of (b .leb128-i64 .ensures) (p .d .given .1)) at (h .1)))
+    (h .0, rw (toZ-ofZ w64 d (held k)) (rw (via i64Of (b .difference .ensures) (p .d .given .1)) at (h .1 .0)))
 
 enum-known-k : tie.Need-enum-known-k
 enum-known-k c = search needs
@@ -41,16 +44,16 @@ same-length-2 c = search needs
 
 returns : tie.Need-returns
 returns c =
-    let p = c .before .before .before .before .before .before .before in
+    let k = c .before .before .before .before .before .before in
+    let p = k .before in
     let b = p .before .before in
     let d = p .d .given .0 .0 in
-    let f : SFits w64 d = search needs in
-    rw (via i64Of (b .leb128-i64 .ensures) (p .d .given .1)) (rw (toZ-ofZ w64 d f) at (c .before .before .before .fill-sums .ensures))
+    rw (via i64Of (b .difference .ensures) (p .d .given .1)) (rw (toZ-ofZ w64 d (held k)) at (c .before .before .before .fill-sums .ensures))
 
 returns-2 : tie.Need-returns-2
 returns-2 c =
     let b = c .before .before .before in
-    let r = via i64Of (b .leb128-i64 .ensures) (c .before .k .given .1) in
+    let r = via i64Of (b .difference .ensures) (c .before .k .given .1) in
     let e = summing-end (b .before .before .before .args .n) (repeated-bad _ _ _ _ _ _ r) in
     (sym (next-eq e), wrote-eq (sym (readings-eq e)) (wrote-none (slotOf (pos 0)) flagOf _ _ _))
 
@@ -58,7 +61,7 @@ pub fill-repeat-spec : {M : Type 1} → statement M
 fill-repeat-spec =
     tie.close
     (tie.spec
-    leb128-i64-requires
+    difference-requires
     enum-known-d
     fill-sums-requires
     enum-known-k

@@ -14,8 +14,8 @@ use Rattle.delta_decoder.proofs.Deltas.{delta-repeat, delta-literal, de
 use Rattle.delta_decoder.proofs.fill_run.Statement.{statement}
 use Rattle.delta_decoder.proofs.fill_run.Tie as tie
 
-head-at-requires : tie.Need-head-at-requires
-head-at-requires c κs = search needs
+head-of-requires : tie.Need-head-of-requires
+head-of-requires c κs = search needs
 
 enum-known-c : tie.Need-enum-known-c
 enum-known-c c = search needs
@@ -25,9 +25,9 @@ fill-repeat-requires c κs =
     let a = c .before .before .before in
     let b = a .before .before in
     let h = b .before .before .before .pre in
-    let r = via headOf (b .head-at .ensures) (a .c .given .1) in
+    let r = via headOf (b .head-of .ensures) (a .c .given .1) in
     let e = delta-repeat _ _ _ _ _ _ (h .0 .0) r in
-    (head-known _ _ _ _ r .2, room-eq (readings-eq e) (h .1))
+    (head-known _ _ _ _ r .2, (room-eq (readings-eq e) (h .1 .0), h .1 .1))
 
 enum-known-c-2 : tie.Need-enum-known-c-2
 enum-known-c-2 c = search needs
@@ -36,7 +36,7 @@ add-fill-literal : tie.Need-add-fill-literal
 add-fill-literal c =
     let a = c .before in
     let b = a .before .before in
-    let h = head-known _ _ _ _ (via headOf (b .head-at .ensures) (a .c2 .given .1)) in
+    let h = head-known _ _ _ _ (via headOf (b .head-of .ensures) (a .c2 .given .1)) in
     omega arith
 
 fill-literal-requires : tie.Need-fill-literal-requires
@@ -44,9 +44,9 @@ fill-literal-requires c κs =
     let a = c .before .before .before in
     let b = a .before .before in
     let h = b .before .before .before .pre in
-    let r = via headOf (b .head-at .ensures) (a .c2 .given .1) in
+    let r = via headOf (b .head-of .ensures) (a .c2 .given .1) in
     let e = delta-literal _ _ _ _ _ _ (h .0 .0) r in
-    room-eq (readings-eq e) (h .1)
+    (room-eq (readings-eq e) (h .1 .0), h .1 .1)
 
 enum-known-c-3 : tie.Need-enum-known-c-3
 enum-known-c-3 c = search needs
@@ -56,15 +56,15 @@ fill-absent-requires c κs =
     let a = c .before .before .before in
     let b = a .before .before in
     let h = b .before .before .before .pre in
-    let r = via headOf (b .head-at .ensures) (a .c3 .given .1) in
+    let r = via headOf (b .head-of .ensures) (a .c3 .given .1) in
     let e = delta-absent _ _ _ _ _ _ (h .0 .0) r in
-    (room-same _ _ absent (room-eq (readings-eq e) (h .1)), h .1 .even)
+    (room-same _ _ absent (room-eq (readings-eq e) (h .1 .0)), h .1 .0 .even)
 
-add-t33 : tie.Need-add-t33
-add-t33 c =
+add-t34 : tie.Need-add-t34
+add-t34 c =
     let a = c .before .before .before .before .before .before .before in
     let b = a .before .before in
-    let h = head-known _ _ _ _ (via headOf (b .head-at .ensures) (a .c3 .given .1)) in
+    let h = head-known _ _ _ _ (via headOf (b .head-of .ensures) (a .c3 .given .1)) in
     omega arith
 
 enum-known-k : tie.Need-enum-known-k
@@ -81,7 +81,7 @@ returns c =
     let a = c .before .before .before .before .before .before .before in
     let b = a .before .before in
     let h = b .before .before .before .pre in
-    let r = via headOf (b .head-at .ensures) (a .c .given .1) in
+    let r = via headOf (b .head-of .ensures) (a .c .given .1) in
     let e = delta-repeat _ _ _ _ _ _ (h .0 .0) r in
     let w = c .before .before .before .fill-repeat .ensures in
     (w .0 ∙ sym (next-eq e), wrote-eq (sym (readings-eq e)) (w .1))
@@ -97,7 +97,7 @@ returns-2 c =
     let a = c .before .before .before .before .before .before .before in
     let b = a .before .before in
     let h = b .before .before .before .pre in
-    let r = via headOf (b .head-at .ensures) (a .c2 .given .1) in
+    let r = via headOf (b .head-of .ensures) (a .c2 .given .1) in
     let e = delta-literal _ _ _ _ _ _ (h .0 .0) r in
     let w = c .before .before .before .fill-literal .ensures in
     (w .0 ∙ sym (next-eq e), wrote-eq (sym (readings-eq e)) (w .1))
@@ -113,7 +113,7 @@ returns-3 c =
     let a = c .before .before .before .before .before .before .before in
     let b = a .before .before in
     let h = b .before .before .before .pre in
-    let r = via headOf (b .head-at .ensures) (a .c3 .given .1) in
+    let r = via headOf (b .head-of .ensures) (a .c3 .given .1) in
     let e = delta-absent _ _ _ _ _ _ (h .0 .0) r in
     let w = c .before .before .before .fill-absent .ensures in
     (sym (next-eq e), wrote-eq (sym (readings-eq e)) (wrote-same (slotOf (pos 0)) flagOf absent (a .c3 .given .0 .0) _ _ _ _ _ (w .0) (w .1)))
@@ -123,7 +123,7 @@ returns-4 c =
     let a = c .before in
     let b = a .before .before in
     let h = b .before .before .before .pre in
-    let r = via headOf (b .head-at .ensures) (a .k .given .1) in
+    let r = via headOf (b .head-of .ensures) (a .k .given .1) in
     let e = delta-amiss _ _ _ _ _ _ (h .0 .0) r in
     (sym (next-eq e), wrote-eq (sym (readings-eq e)) (wrote-none (slotOf (pos 0)) flagOf _ _ _))
 
@@ -131,7 +131,7 @@ pub fill-run-spec : {M : Type 1} → statement M
 fill-run-spec =
     tie.close
     (tie.spec
-    head-at-requires
+    head-of-requires
     enum-known-c
     fill-repeat-requires
     enum-known-c-2
@@ -139,7 +139,7 @@ fill-run-spec =
     fill-literal-requires
     enum-known-c-3
     fill-absent-requires
-    add-t33
+    add-t34
     enum-known-k
     same-length
     same-length-2

@@ -19,16 +19,19 @@ use Rattle.delta_decoder.proofs.last_sum.Statement.{statement}
 use Rattle.delta_decoder.proofs.last_sum.Tie as tie
 
 abbrev Inv-loop : tie.InvT-loop
-Inv-loop s at₀ had₀ n₀ at had n = (had ≤ limit) × Leading s (lastSum (pos 0) (deltaTrace s .readings)) (sofar at had n)
+Inv-loop s table at₀ had₀ n₀ at had n = (had ≤ limit) × Leading s (lastSum (pos 0) (deltaTrace s .readings)) (sofar at had n)
 
 abbrev μ-loop : tie.MeasureT-loop
-μ-loop s at₀ had₀ n₀ at had n = length s - at
+μ-loop s table at₀ had₀ n₀ at had n = length s - at
+
+short-numbers-requires : tie.Need-short-numbers-requires Inv-loop μ-loop
+short-numbers-requires c κs = search needs
 
 loop-holds : tie.Need-loop-holds Inv-loop μ-loop
 loop-holds c = (omega arith, leading-start _)
 
 scan-run-requires : tie.Need-scan-run-requires Inv-loop μ-loop
-scan-run-requires c κs = search needs
+scan-run-requires c κs = (search needs, c .before .before .before .short-numbers .ensures)
 
 enum-known-next : tie.Need-enum-known-next Inv-loop μ-loop
 enum-known-next c = search needs
@@ -40,7 +43,7 @@ loop-again : tie.Need-loop-again Inv-loop μ-loop
 loop-again c =
     let b = c .before .before .before in
     let e = via stepOf (b .scan-run .ensures) (c .before .next .given .1) in
-    (deltas _ .capped _ _ e, leading-on _ _ (b .before .before .loop .inv .1) _ e)
+    (deltas _ .capped _ _ e, leading-on _ _ (b .before .before .before .loop .inv .1) _ e)
 
 enum-told : tie.Need-enum-told Inv-loop μ-loop
 enum-told c = search needs
@@ -56,7 +59,7 @@ returns c =
     let b = c .before .before .before .before in
     let e = via stepOf (b .scan-run .ensures) (c .before .before .enum-told .given .1) in
     let f : SFits w64 (c .sum-of .result) = search needs in
-    same (c .sum-of .result) f ∙ c .sum-of .ensures ∙ c .before .run-sum .ensures ∙ leading-off _ _ (b .before .before .loop .inv .1) _ _ e
+    same (c .sum-of .result) f ∙ c .sum-of .ensures ∙ c .before .run-sum .ensures ∙ leading-off _ _ (b .before .before .before .loop .inv .1) _ _ e
 
 sum-of-requires-2 : tie.Need-sum-of-requires-2 Inv-loop μ-loop
 sum-of-requires-2 c κs = search needs
@@ -72,6 +75,7 @@ last-sum-spec =
     (tie.spec
     Inv-loop
     μ-loop
+    short-numbers-requires
     loop-holds
     scan-run-requires
     enum-known-next

@@ -17,16 +17,16 @@ use Rattle.delta_decoder.proofs.read_literals.Statement.{statement}
 use Rattle.delta_decoder.proofs.read_literals.Tie as tie
 
 abbrev Inv-loop : tie.InvT-loop
-Inv-loop s q c sum at₀ read₀ n₀ at read n = Counted s c (length (summing sum (literals i64E s 0 c q) .readings)) read at n
+Inv-loop table s q c sum at₀ read₀ n₀ at read n = Counted s c (length (summing sum (literals i64E s 0 c q) .readings)) read at n
 
 abbrev μ-loop : tie.MeasureT-loop
-μ-loop s q c sum at₀ read₀ n₀ at read n = c - read
+μ-loop table s q c sum at₀ read₀ n₀ at read n = c - read
 
 loop-holds : tie.Need-loop-holds Inv-loop μ-loop
 loop-holds c = counted-start _ _ _ _
 
-leb128-i64-requires : tie.Need-leb128-i64-requires Inv-loop μ-loop
-leb128-i64-requires c κs = search needs
+difference-requires : tie.Need-difference-requires Inv-loop μ-loop
+difference-requires c κs = search needs
 
 enum-known-d : tie.Need-enum-known-d Inv-loop μ-loop
 enum-known-d c = search needs
@@ -50,7 +50,7 @@ loop-again c =
     let l = p .before .before .before in
     let d = p .d .given .0 .0 in
     let f : SFits w64 d = search needs in
-    let r = via i64Of (p .before .before .leb128-i64 .ensures) (p .d .given .1) in
+    let r = via i64Of (p .before .before .difference .ensures) (p .d .given .1) in
     let t = rw (toZ-ofZ w64 d f) at (via sumIs (b .add .ensures) (c .before .m .given .1)) in
     counted-on _ _ _ _ _ _ (l .before .loop .inv) d _ _ (l .loop-test .taken) r t
 
@@ -64,7 +64,7 @@ returns c =
     let l = p .before .before .before in
     let d = p .d .given .0 .0 in
     let f : SFits w64 d = search needs in
-    let r = via i64Of (p .before .before .leb128-i64 .ensures) (p .d .given .1) in
+    let r = via i64Of (p .before .before .difference .ensures) (p .d .given .1) in
     let t = rw (toZ-ofZ w64 d f) at (via sumIs (b .add .ensures) (c .enum-told .given .1)) in
     counted-out _ _ _ _ _ _ (l .before .loop .inv) d _ (l .loop-test .taken) r t
 
@@ -75,7 +75,7 @@ returns-2 : tie.Need-returns-2 Inv-loop μ-loop
 returns-2 c =
     let b = c .before .before in
     let l = b .before in
-    counted-unread _ _ _ _ _ _ (l .before .loop .inv) _ _ (l .loop-test .taken) (via i64Of (b .leb128-i64 .ensures) (c .enum-told2 .given .1))
+    counted-unread _ _ _ _ _ _ (l .before .loop .inv) _ _ (l .loop-test .taken) (via i64Of (b .difference .ensures) (c .enum-told2 .given .1))
 
 returns-3 : tie.Need-returns-3 Inv-loop μ-loop
 returns-3 c = counted-end _ _ _ _ _ _ (c .before .loop .inv) (c .loop-test .left)
@@ -87,7 +87,7 @@ read-literals-spec =
     Inv-loop
     μ-loop
     loop-holds
-    leb128-i64-requires
+    difference-requires
     enum-known-d
     add-requires
     enum-known-m

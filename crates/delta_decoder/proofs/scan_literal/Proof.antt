@@ -18,17 +18,17 @@ use Rattle.delta_decoder.proofs.scan_literal.Statement.{statement}
 use Rattle.delta_decoder.proofs.scan_literal.Tie as tie
 
 abbrev Inv-loop : tie.InvT-loop
-Inv-loop s q total c sum at₀ left₀ n₀ at left n =
+Inv-loop table s q total c sum at₀ left₀ n₀ at left n =
     summing sum (literals i64E s total c q) .next ≡ summing n (literals i64E s total left at) .next
 
 abbrev μ-loop : tie.MeasureT-loop
-μ-loop s q total c sum at₀ left₀ n₀ at left n = left
+μ-loop table s q total c sum at₀ left₀ n₀ at left n = left
 
 loop-holds : tie.Need-loop-holds Inv-loop μ-loop
 loop-holds c = refl
 
-leb128-i64-requires : tie.Need-leb128-i64-requires Inv-loop μ-loop
-leb128-i64-requires c κs = search needs
+difference-requires : tie.Need-difference-requires Inv-loop μ-loop
+difference-requires c κs = search needs
 
 enum-known-d : tie.Need-enum-known-d Inv-loop μ-loop
 enum-known-d c = search needs
@@ -52,7 +52,7 @@ loop-again c =
     let l = p .before .before .before .before in
     let d = p .d .given .0 .0 in
     let f : SFits w64 d = search needs in
-    let r = via i64Of (p .before .before .leb128-i64 .ensures) (p .d .given .1) in
+    let r = via i64Of (p .before .before .difference .ensures) (p .d .given .1) in
     let t = rw (toZ-ofZ w64 d f) at (via sumIs (b .add .ensures) (c .before .m .given .1)) in
     let e = literals-on i64E _ _ _ _ _ _ (p .before .before .before .loop-test .taken) r in
     l .loop .inv ∙ next-eq (summing-on _ e _ t)
@@ -67,7 +67,7 @@ returns c =
     let l = p .before .before .before .before in
     let d = p .d .given .0 .0 in
     let f : SFits w64 d = search needs in
-    let r = via i64Of (p .before .before .leb128-i64 .ensures) (p .d .given .1) in
+    let r = via i64Of (p .before .before .difference .ensures) (p .d .given .1) in
     let t = rw (toZ-ofZ w64 d f) at (via sumIs (b .add .ensures) (c .enum-told .given .1)) in
     let e = literals-on i64E _ _ _ _ _ _ (p .before .before .before .loop-test .taken) r in
     sym (l .loop .inv ∙ next-eq (summing-out _ e t))
@@ -78,7 +78,7 @@ enum-known-k c = search needs
 returns-2 : tie.Need-returns-2 Inv-loop μ-loop
 returns-2 c =
     let b = c .before .before .before in
-    let r = via i64Of (b .leb128-i64 .ensures) (c .before .k .given .1) in
+    let r = via i64Of (b .difference .ensures) (c .before .k .given .1) in
     let e = literals-off i64E _ _ _ _ _ _ (b .before .loop-test .taken) r in
     sym (b .before .before .loop .inv ∙ next-eq (summing-end _ e))
 
@@ -92,7 +92,7 @@ scan-literal-spec =
     Inv-loop
     μ-loop
     loop-holds
-    leb128-i64-requires
+    difference-requires
     enum-known-d
     add-requires
     enum-known-m

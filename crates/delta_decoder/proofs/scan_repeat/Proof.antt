@@ -14,8 +14,8 @@ use Rattle.delta_decoder.proofs.Summing.{repeated-next, summing-end}
 use Rattle.delta_decoder.proofs.scan_repeat.Statement.{statement}
 use Rattle.delta_decoder.proofs.scan_repeat.Tie as tie
 
-leb128-i64-requires : tie.Need-leb128-i64-requires
-leb128-i64-requires c κs = search needs
+difference-requires : tie.Need-difference-requires
+difference-requires c κs = search needs
 
 enum-known-d : tie.Need-enum-known-d
 enum-known-d c = search needs
@@ -26,8 +26,8 @@ add-times-requires c κs = search needs
 enum-known-m : tie.Need-enum-known-m
 enum-known-m c = search needs
 
-add-t15 : tie.Need-add-t15
-add-t15 c = search needs
+add-t16 : tie.Need-add-t16
+add-t16 c = search needs
 
 enum-told : tie.Need-enum-told
 enum-told c = search needs
@@ -42,7 +42,7 @@ returns c =
     let a = p .before .before .before .before .args in
     let d = p .d .given .0 .0 in
     let f : SFits w64 d = search needs in
-    let r = via i64Of (p .before .before .leb128-i64 .ensures) (p .d .given .1) in
+    let r = via i64Of (p .before .before .difference .ensures) (p .d .given .1) in
     let t = rw (toZ-ofZ w64 d f) at (via sumIs (b .add-times .ensures) (c .before .m .given .1)) in
     sym (repeated-next (a .n) (a .had) (a .c) (a .q) _ _ _ _ (omega arith) r t)
 
@@ -53,24 +53,24 @@ returns-2 c =
     let a = p .before .before .before .before .args in
     let d = p .d .given .0 .0 in
     let f : SFits w64 d = search needs in
-    let r = via i64Of (p .before .before .leb128-i64 .ensures) (p .d .given .1) in
+    let r = via i64Of (p .before .before .difference .ensures) (p .d .given .1) in
     let t = rw (toZ-ofZ w64 d f) at (via sumIs (b .add-times .ensures) (c .enum-told .given .1)) in
     sym (repeated-next (a .n) (a .had) (a .c) (a .q) _ _ _ _ (omega arith) r t)
 
 returns-3 : tie.Need-returns-3
 returns-3 c =
-    let r = via i64Of (c .before .before .before .leb128-i64 .ensures) (c .before .k .given .1) in
+    let r = via i64Of (c .before .before .before .difference .ensures) (c .before .k .given .1) in
     sym (next-eq (summing-end (c .before .before .before .before .before .args .n) (repeated-bad _ _ _ _ _ _ r)))
 
 pub scan-repeat-spec : {M : Type 1} → statement M
 scan-repeat-spec =
     tie.close
     (tie.spec
-    leb128-i64-requires
+    difference-requires
     enum-known-d
     add-times-requires
     enum-known-m
-    add-t15
+    add-t16
     enum-told
     enum-known-k
     returns

@@ -10,8 +10,8 @@ use Rattle.delta_decoder.proofs.Deltas.{delta-repeat, delta-literal, de
 use Rattle.delta_decoder.proofs.scan_run.Statement.{statement}
 use Rattle.delta_decoder.proofs.scan_run.Tie as tie
 
-head-at-requires : tie.Need-head-at-requires
-head-at-requires c κs = search needs
+head-of-requires : tie.Need-head-of-requires
+head-of-requires c κs = search needs
 
 enum-known-c : tie.Need-enum-known-c
 enum-known-c c = search needs
@@ -20,7 +20,7 @@ scan-repeat-requires : tie.Need-scan-repeat-requires
 scan-repeat-requires c κs =
     let a = c .before in
     let b = a .before .before in
-    head-known _ _ _ _ (via headOf (b .head-at .ensures) (a .c .given .1)) .2
+    (head-known _ _ _ _ (via headOf (b .head-of .ensures) (a .c .given .1)) .2, b .before .before .pre .1)
 
 enum-known-c-2 : tie.Need-enum-known-c-2
 enum-known-c-2 c = search needs
@@ -29,7 +29,7 @@ add-scan-literal : tie.Need-add-scan-literal
 add-scan-literal c =
     let a = c .before in
     let b = a .before .before in
-    let h = head-known _ _ _ _ (via headOf (b .head-at .ensures) (a .c2 .given .1)) in
+    let h = head-known _ _ _ _ (via headOf (b .head-of .ensures) (a .c2 .given .1)) in
     omega arith
 
 scan-literal-requires : tie.Need-scan-literal-requires
@@ -38,11 +38,11 @@ scan-literal-requires c κs = search needs
 enum-known-c-3 : tie.Need-enum-known-c-3
 enum-known-c-3 c = search needs
 
-add-t16 : tie.Need-add-t16
-add-t16 c =
+add-t17 : tie.Need-add-t17
+add-t17 c =
     let a = c .before in
     let b = a .before .before in
-    let h = head-known _ _ _ _ (via headOf (b .head-at .ensures) (a .c3 .given .1)) in
+    let h = head-known _ _ _ _ (via headOf (b .head-of .ensures) (a .c3 .given .1)) in
     omega arith
 
 enum-known-k : tie.Need-enum-known-k
@@ -52,42 +52,42 @@ returns : tie.Need-returns
 returns c =
     let a = c .before .before in
     let b = a .before .before in
-    let e = delta-repeat _ _ _ _ _ _ (b .before .before .pre .0) (via headOf (b .head-at .ensures) (a .c .given .1)) in
+    let e = delta-repeat _ _ _ _ _ _ (b .before .before .pre .0 .0) (via headOf (b .head-of .ensures) (a .c .given .1)) in
     c .scan-repeat .ensures ∙ sym (next-eq e)
 
 returns-2 : tie.Need-returns-2
 returns-2 c =
     let a = c .before .before in
     let b = a .before .before in
-    let e = delta-literal _ _ _ _ _ _ (b .before .before .pre .0) (via headOf (b .head-at .ensures) (a .c2 .given .1)) in
+    let e = delta-literal _ _ _ _ _ _ (b .before .before .pre .0 .0) (via headOf (b .head-of .ensures) (a .c2 .given .1)) in
     c .scan-literal .ensures ∙ sym (next-eq e)
 
 returns-3 : tie.Need-returns-3
 returns-3 c =
     let a = c .before in
     let b = a .before .before in
-    let e = delta-absent _ _ _ _ _ _ (b .before .before .pre .0) (via headOf (b .head-at .ensures) (a .c3 .given .1)) in
+    let e = delta-absent _ _ _ _ _ _ (b .before .before .pre .0 .0) (via headOf (b .head-of .ensures) (a .c3 .given .1)) in
     sym (next-eq e)
 
 returns-4 : tie.Need-returns-4
 returns-4 c =
     let a = c .before in
     let b = a .before .before in
-    let e = delta-amiss _ _ _ _ _ _ (b .before .before .pre .0) (via headOf (b .head-at .ensures) (a .k .given .1)) in
+    let e = delta-amiss _ _ _ _ _ _ (b .before .before .pre .0 .0) (via headOf (b .head-of .ensures) (a .k .given .1)) in
     sym (next-eq e)
 
 pub scan-run-spec : {M : Type 1} → statement M
 scan-run-spec =
     tie.close
     (tie.spec
-    head-at-requires
+    head-of-requires
     enum-known-c
     scan-repeat-requires
     enum-known-c-2
     add-scan-literal
     scan-literal-requires
     enum-known-c-3
-    add-t16
+    add-t17
     enum-known-k
     returns
     returns-2

@@ -1,70 +1,60 @@
--- `leb128::leb128_i64` meets its contract. Assumes nothing.
-use mathlib.Core.Path.{_≡_, sym, ap, _∙_}
-use Prim.Native.Nat.{_+_, _≤_, min}
-use borrow.Author.Needs.{needs}
+-- `leb128::leb128_i64` meets its contract: a number of one byte by the table's rule, or one of any length. Assumes nothing.
+use mathlib.Core.Path.{_≡_, ap, _∙_}
+use Prim.Native.Nat.{_+_, _<_}
+use lib.IntN.{ℤ, pos}
+use lib.ListN.{getD}
+use mir.Syntax.{w64}
+use mir.ValLaws.{toZ-ofZ}
+use borrow.Author.Needs.{needs, sfits-of}
 use native.Mathlib.Omega.{arith}
-use lib.ListN.{length, drop}
-use Rattle.leb128.specs.Digits.{whole, digits}
-use Rattle.leb128.specs.Cases.{digitsOf}
-use Rattle.leb128.specs.Read.{i64At}
-use Rattle.leb128.specs.Sound.{Sound}
-use Rattle.leb128.proofs.Sound.{whole-sound, whole-place}
+use Rattle.leb128.specs.Got.{got}
+use Rattle.leb128.specs.Short.{entryOf, short}
+use Rattle.leb128.proofs.Lookup.{rule, one-i64}
+use Rattle.leb128.proofs.Twos.{same-byte}
 use Rattle.leb128.proofs.leb128_i64.Statement.{statement}
 use Rattle.leb128.proofs.leb128_i64.Tie as tie
 
-digits-at-requires : tie.Need-digits-at-requires
-digits-at-requires c κs = search needs
+shared-slice-read-place-of : tie.Need-shared-slice-read-place-of
+shared-slice-read-place-of c = search needs
 
-enum-known-low : tie.Need-enum-known-low
-enum-known-low c = search needs
+place-of-requires : tie.Need-place-of-requires
+place-of-requires c κs = search needs
 
-found : (c : tie.After-low)
-    → let v = c .low .given .0 in whole (v .0) (v .1 .0) (v .1 .1 .0) (v .1 .1 .1 .0) (v .1 .1 .1 .1 .0) ≡ digits 0 0
-    (drop (c .before .before .before .before .args .at) (c .before .before .before .before .args .s .now))
-found c = ap digitsOf (sym (c .low .given .1)) ∙ c .before .before .digits-at .ensures
+array-copy-out-number-of : tie.Need-array-copy-out-number-of
+array-copy-out-number-of c = search needs
 
-sound : (c : tie.After-low) → let v = c .low .given .0 in let a = c .before .before .before .before .args in
-    Sound (v .0) (v .1 .0) (v .1 .1 .1 .0) (v .1 .1 .1 .1 .0) × (a .at + v .1 .1 .1 .1 .0 ≤ length (a .s .now))
-sound c = whole-sound _ _ (λ i. c .before .before .before .shared-slice-known .given i .fits) _ _ _ _ _ (found c)
+number-of-requires : tie.Need-number-of-requires
+number-of-requires c κs = search needs
 
-i64-of-requires : tie.Need-i64-of-requires
-i64-of-requires c κs = (sound (c .before) .0, omega (arith, sound (c .before)))
-
-enum-known-r : tie.Need-enum-known-r
-enum-known-r c = search needs
+add-t14 : tie.Need-add-t14
+add-t14 c = search needs
 
 returns : tie.Need-returns
-unfolding i64At
+unfolding short
 returns c =
-    let shared-slice-known = c .before .before .before .before .before .shared-slice-known in
-    c .i64-of .ensures ∙ rw (
-      ← found (c .before .before),
-      whole-place _ _ (λ i. shared-slice-known .given i .fits) _ _ _ _ _
-          (found (c .before .before)),
-    )
+    let a = c .before .before .before .before .before .before .before .args in
+    let b = c .before .before .before .place-of in
+    let x : ℤ = getD short (b .result) (pos 0) in
+    let e : c .number-of .result ≡ x = c .number-of .ensures ∙ same-byte x (c .before .number-of-arg .given) in
+    let f = e ∙ rule (b .result) (b .ensures .1) ∙ ap entryOf (b .ensures .0) in
+    let k : getD (a .s .now) (a .at) 0 < 128 = omega (arith, b .ensures, c .before .before .if2 .taken) in
+    ap (λ z. got z (a .at + 1)) (toZ-ofZ w64 (c .number-of .result) (sfits-of (c .number-of .ok)) ∙ f) ∙ one-i64 (a .s .now) (a .at) (c .before .before .before .before .before .if1 .taken) k
+
+i64-by-bytes-requires : tie.Need-i64-by-bytes-requires
+i64-by-bytes-requires c κs = search needs
 
 returns-2 : tie.Need-returns-2
-unfolding i64At
-returns-2 c =
-    let a = c .before .before .before .before .before .before .args in
-    let m : min (a .at) (length (a .s .now)) ≡ a .at = omega arith in
-    rw (← (ap digitsOf (sym (c .before .before .r .given .1)) ∙ c .before .before .before .before .digits-at .ensures), m)
-
-returns-3 : tie.Need-returns-3
-unfolding i64At
-returns-3 c =
-    let a = c .before .before .before .before .before .before .args in
-    let m : min (a .at) (length (a .s .now)) ≡ length (a .s .now) = omega arith in
-    rw (← (ap digitsOf (sym (c .before .before .r .given .1)) ∙ c .before .before .before .before .digits-at .ensures), m)
+returns-2 c = search needs
 
 pub leb128-i64-spec : {M : Type 1} → statement M
 leb128-i64-spec =
     tie.close
     (tie.spec
-    digits-at-requires
-    enum-known-low
-    i64-of-requires
-    enum-known-r
+    shared-slice-read-place-of
+    place-of-requires
+    array-copy-out-number-of
+    number-of-requires
+    add-t14
     returns
-    returns-2
-    returns-3)
+    i64-by-bytes-requires
+    returns-2)

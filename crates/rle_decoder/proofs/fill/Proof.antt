@@ -17,32 +17,33 @@ use Rattle.rle_decoder.proofs.fill.Statement.{statement}
 use Rattle.rle_decoder.proofs.fill.Tie as tie
 
 abbrev Inv-loop : tie.InvT-loop
-Inv-loop s values₀ present₀ at₀ filled₀ values present at filled =
+Inv-loop s values₀ present₀ table at₀ filled₀ values present at filled =
     Owed (words s) (slotOf 0) flagOf (spot 0 0) values₀ values present₀ present (spot at filled)
 
 abbrev μ-loop : tie.MeasureT-loop
-μ-loop s values₀ present₀ at₀ filled₀ values present at filled = length s - at
+μ-loop s values₀ present₀ table at₀ filled₀ values present at filled = length s - at
+
+short-numbers-requires : tie.Need-short-numbers-requires Inv-loop μ-loop
+short-numbers-requires c κs = search needs
 
 loop-holds : tie.Need-loop-holds Inv-loop μ-loop
-loop-holds c = owed-start (words _) (slotOf 0) flagOf (spot 0 0) refl _ _ (rw (trace-rest u64E u64-laws) at (c .before .before .before .pre))
+loop-holds c = owed-start (words _) (slotOf 0) flagOf (spot 0 0) refl _ _ (rw (trace-rest u64E u64-laws) at (c .before .before .before .before .pre))
 
 fill-run-requires : tie.Need-fill-run-requires Inv-loop μ-loop
 fill-run-requires c κs =
-    (search needs, owed-room (words _) (slotOf 0) flagOf (spot 0 0) refl _ _ _ _ _ (c .before .before .before .loop .inv))
+    (search needs, (owed-room (words _) (slotOf 0) flagOf (spot 0 0) refl _ _ _ _ _ (c .before .before .before .before .loop .inv), c .before .before .before .before .before .short-numbers .ensures))
 
 enum-known-next : tie.Need-enum-known-next Inv-loop μ-loop
 enum-known-next c = search needs
 
 loop-less : tie.Need-loop-less Inv-loop μ-loop
 loop-less c =
-    let b = c .before .before .before .before .before .before .before in
-    words _ .falls _ _ (via stepOf (b .fill-run .ensures .0) (c .before .next .given .1))
+    words _ .falls _ _ (via stepOf (c .before .before .before .before .before .before .before .fill-run .ensures .0) (c .before .next .given .1))
 
 loop-again : tie.Need-loop-again Inv-loop μ-loop
 loop-again c =
-    let b = c .before .before .before .before .before .before .before in
-    let o = b .before .before .before .before .loop .inv in
-    let w = b .fill-run .ensures in
+    let o = c .before .before .before .before .before .before .before .before .before .before .before .before .loop .inv in
+    let w = c .before .before .before .before .before .before .before .fill-run .ensures in
     owed-on (words _) (slotOf 0) flagOf (spot 0 0) refl _ _ _ _ _ o _ _ _ (w .1) (via stepOf (w .0) (c .before .next .given .1))
 
 enum-known-number : tie.Need-enum-known-number Inv-loop μ-loop
@@ -50,21 +51,18 @@ enum-known-number c = search needs
 
 same-length : tie.Need-same-length Inv-loop μ-loop
 same-length c =
-    let b = c .before .before .before .before .before .before .before in
-    let o = b .before .before .before .before .loop .inv in
-    b .fill-run .kept .1 .1 .1 .0 ∙ o .same-v
+    let o = c .before .before .before .before .before .before .before .before .before .before .before .before .loop .inv in
+    c .before .before .before .before .before .before .before .fill-run .kept .1 .1 .1 .1 .0 ∙ o .same-v
 
 same-length-2 : tie.Need-same-length-2 Inv-loop μ-loop
 same-length-2 c =
-    let b = c .before .before .before .before .before .before .before in
-    let o = b .before .before .before .before .loop .inv in
-    b .fill-run .kept .1 .1 .1 .1 .0 ∙ o .same-p
+    let o = c .before .before .before .before .before .before .before .before .before .before .before .before .loop .inv in
+    c .before .before .before .before .before .before .before .fill-run .kept .1 .1 .1 .1 .1 .0 ∙ o .same-p
 
 returns : tie.Need-returns Inv-loop μ-loop
 returns c =
-    let b = c .before .before .before .before .before .before .before in
-    let o = b .before .before .before .before .loop .inv in
-    let w = b .fill-run .ensures in
+    let o = c .before .before .before .before .before .before .before .before .before .before .before .before .loop .inv in
+    let w = c .before .before .before .before .before .before .before .fill-run .ensures in
     rw (trace-rest u64E u64-laws)
     (owed-off (words _) (slotOf 0) flagOf (spot 0 0) refl _ _ _ _ _ o _ _ _ _ (w .1) (via stepOf (w .0) (c .before .number .given .1)))
 
@@ -86,6 +84,7 @@ fill-spec =
     (tie.spec
     Inv-loop
     μ-loop
+    short-numbers-requires
     loop-holds
     fill-run-requires
     enum-known-next

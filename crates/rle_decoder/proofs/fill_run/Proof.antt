@@ -14,8 +14,8 @@ use Rattle.encoding.proofs.Running.{wrote-run}
 use Rattle.rle_decoder.proofs.fill_run.Statement.{statement}
 use Rattle.rle_decoder.proofs.fill_run.Tie as tie
 
-head-at-requires : tie.Need-head-at-requires
-head-at-requires c κs = search needs
+head-of-requires : tie.Need-head-of-requires
+head-of-requires c κs = search needs
 
 enum-known-c : tie.Need-enum-known-c
 enum-known-c c = search needs
@@ -25,10 +25,10 @@ unfolding runOf
 fill-repeat-requires c κs =
     let a = c .before .before .before in
     let b = a .before .before in
-    let r = via headOf (b .head-at .ensures) (a .c .given .1) in
+    let r = via headOf (b .head-of .ensures) (a .c .given .1) in
     let h = b .before .before .before .before .pre in
     let e = run-head u64E _ _ _ _ (h .0 .0) r in
-    (head-known _ _ _ _ r .2, room-eq (readings-eq e) (h .1))
+    (head-known _ _ _ _ r .2, room-eq (readings-eq e) (h .1 .0))
 
 enum-known-c-2 : tie.Need-enum-known-c-2
 enum-known-c-2 c = search needs
@@ -37,7 +37,7 @@ add-fill-literal : tie.Need-add-fill-literal
 add-fill-literal c =
     let a = c .before in
     let b = a .before .before in
-    let r = via headOf (b .head-at .ensures) (a .c2 .given .1) in
+    let r = via headOf (b .head-of .ensures) (a .c2 .given .1) in
     let h = head-known _ _ _ _ r in
     omega arith
 
@@ -46,10 +46,10 @@ unfolding runOf
 fill-literal-requires c κs =
     let a = c .before .before .before in
     let b = a .before .before in
-    let r = via headOf (b .head-at .ensures) (a .c2 .given .1) in
+    let r = via headOf (b .head-of .ensures) (a .c2 .given .1) in
     let h = b .before .before .before .before .pre in
     let e = run-head u64E _ _ _ _ (h .0 .0) r in
-    room-eq (readings-eq e) (h .1)
+    room-eq (readings-eq e) (h .1 .0)
 
 enum-known-c-3 : tie.Need-enum-known-c-3
 enum-known-c-3 c = search needs
@@ -59,16 +59,16 @@ unfolding runOf
 fill-same-requires c κs =
     let a = c .before .before .before in
     let b = a .before .before in
-    let r = via headOf (b .head-at .ensures) (a .c3 .given .1) in
+    let r = via headOf (b .head-of .ensures) (a .c3 .given .1) in
     let h = b .before .before .before .before .pre in
     let e = run-head u64E _ _ _ _ (h .0 .0) r in
-    (room-same _ _ absent (room-eq (readings-eq e) (h .1)), h .1 .even)
+    (room-same _ _ absent (room-eq (readings-eq e) (h .1 .0)), h .1 .0 .even)
 
-add-t32 : tie.Need-add-t32
-add-t32 c =
+add-t33 : tie.Need-add-t33
+add-t33 c =
     let a = c .before .before .before .before .before .before .before .before in
     let b = a .before .before in
-    let r = via headOf (b .head-at .ensures) (a .c3 .given .1) in
+    let r = via headOf (b .head-of .ensures) (a .c3 .given .1) in
     let h = head-known _ _ _ _ r in
     omega arith
 
@@ -86,7 +86,7 @@ unfolding runOf
 returns c =
     let a = c .before .before .before .before .before .before .before .before in
     let b = a .before .before in
-    let r = via headOf (b .head-at .ensures) (a .c .given .1) in
+    let r = via headOf (b .head-of .ensures) (a .c .given .1) in
     let h = b .before .before .before .before .pre in
     let e = run-head u64E _ _ _ _ (h .0 .0) r in
     let w = c .before .before .before .before .fill-repeat .ensures in
@@ -103,7 +103,7 @@ unfolding runOf
 returns-2 c =
     let a = c .before .before .before .before .before .before .before .before in
     let b = a .before .before in
-    let r = via headOf (b .head-at .ensures) (a .c2 .given .1) in
+    let r = via headOf (b .head-of .ensures) (a .c2 .given .1) in
     let h = b .before .before .before .before .pre in
     let e = run-head u64E _ _ _ _ (h .0 .0) r in
     let w = c .before .before .before .before .fill-literal .ensures in
@@ -120,7 +120,7 @@ unfolding runOf
 returns-3 c =
     let a = c .before .before .before .before .before .before .before .before in
     let b = a .before .before in
-    let r = via headOf (b .head-at .ensures) (a .c3 .given .1) in
+    let r = via headOf (b .head-of .ensures) (a .c3 .given .1) in
     let h = b .before .before .before .before .pre in
     let e = run-head u64E _ _ _ _ (h .0 .0) r in
     let w = c .before .before .before .before .fill-same .ensures in
@@ -131,7 +131,7 @@ unfolding runOf
 returns-4 c =
     let a = c .before in
     let b = a .before .before in
-    let r = via headOf (b .head-at .ensures) (a .number .given .1) in
+    let r = via headOf (b .head-of .ensures) (a .number .given .1) in
     let h = b .before .before .before .before .pre in
     let e = run-head u64E _ _ _ _ (h .0 .0) r in
     wrote-run e refl (wrote-none (slotOf 0) flagOf _ _ _)
@@ -140,7 +140,7 @@ pub fill-run-spec : {M : Type 1} → statement M
 fill-run-spec =
     tie.close
     (tie.spec
-    head-at-requires
+    head-of-requires
     enum-known-c
     fill-repeat-requires
     enum-known-c-2
@@ -148,7 +148,7 @@ fill-run-spec =
     fill-literal-requires
     enum-known-c-3
     fill-same-requires
-    add-t32
+    add-t33
     enum-known-number
     same-length
     same-length-2

@@ -18,41 +18,40 @@ use Rattle.text_decoder.proofs.fill.Statement.{statement}
 use Rattle.text_decoder.proofs.fill.Tie as tie
 
 abbrev Inv-loop : tie.InvT-loop
-Inv-loop s starts₀ lens₀ present₀ at₀ filled₀ starts lens present at filled =
+Inv-loop s starts₀ lens₀ present₀ table at₀ filled₀ starts lens present at filled =
     Owed (names s) startOf flagOf (spot 0 0) starts₀ starts present₀ present (spot at filled)
     × Owed (names s) lengthOf flagOf (spot 0 0) lens₀ lens present₀ present (spot at filled)
 
 abbrev μ-loop : tie.MeasureT-loop
-μ-loop s starts₀ lens₀ present₀ at₀ filled₀ starts lens present at filled = length s - at
+μ-loop s starts₀ lens₀ present₀ table at₀ filled₀ starts lens present at filled = length s - at
+
+short-numbers-requires : tie.Need-short-numbers-requires Inv-loop μ-loop
+short-numbers-requires c κs = search needs
 
 loop-holds : tie.Need-loop-holds Inv-loop μ-loop
 loop-holds c = (
-  owed-start (names _) startOf flagOf (spot 0 0) refl _ _ (rw (trace-rest textE text-laws) at (c .before .before .before .before .pre .0)),
-  owed-start (names _) lengthOf flagOf (spot 0 0) refl _ _ (rw (trace-rest textE text-laws) at (c .before .before .before .before .pre .1)),
+  owed-start (names _) startOf flagOf (spot 0 0) refl _ _ (rw (trace-rest textE text-laws) at (c .before .before .before .before .before .pre .0)),
+  owed-start (names _) lengthOf flagOf (spot 0 0) refl _ _ (rw (trace-rest textE text-laws) at (c .before .before .before .before .before .pre .1)),
 )
 
 fill-run-requires : tie.Need-fill-run-requires Inv-loop μ-loop
 fill-run-requires c κs =
-    let a = c .before .before .before in
-    let o = a .before .loop .inv in
+    let o = c .before .before .before .before .before .loop .inv in
     let u = owed-room (names _) startOf flagOf (spot 0 0) refl _ _ _ _ _ (o .0) in
     let v = owed-room (names _) lengthOf flagOf (spot 0 0) refl _ _ _ _ _ (o .1) in
-    ((a .loop-test .taken, o .0 .capped), (u, v))
+    ((c .before .before .before .before .loop-test .taken, o .0 .capped), (u, (v, c .before .before .before .before .before .before .short-numbers .ensures)))
 
 enum-known-next : tie.Need-enum-known-next Inv-loop μ-loop
 enum-known-next c = search needs
 
 loop-less : tie.Need-loop-less Inv-loop μ-loop
 loop-less c =
-    let a = c .before .before .before .before .before .before .before .before .before in
-    names _ .falls _ _ (via stepOf (a .fill-run .ensures .0) (c .before .next .given .1))
+    names _ .falls _ _ (via stepOf (c .before .before .before .before .before .before .before .before .before .fill-run .ensures .0) (c .before .next .given .1))
 
 loop-again : tie.Need-loop-again Inv-loop μ-loop
 loop-again c =
-    let a = c .before .before .before .before .before .before .before .before .before in
-    let b = a .before .before .before .before .before in
-    let o = b .loop .inv in
-    let w = a .fill-run .ensures in
+    let o = c .before .before .before .before .before .before .before .before .before .before .before .before .before .before .before .loop .inv in
+    let w = c .before .before .before .before .before .before .before .before .before .fill-run .ensures in
     let e = via stepOf (w .0) (c .before .next .given .1) in (
       owed-on (names _) startOf flagOf (spot 0 0) refl _ _ _ _ _ (o .0) _ _ _ (w .1 .0) e,
       owed-on (names _) lengthOf flagOf (spot 0 0) refl _ _ _ _ _ (o .1) _ _ _ (w .1 .1) e,
@@ -63,28 +62,20 @@ enum-known-number c = search needs
 
 same-length : tie.Need-same-length Inv-loop μ-loop
 same-length c =
-    let a = c .before .before .before .before .before .before .before .before .before in
-    let b = a .before .before .before .before .before in
-    a .fill-run .kept .1 .1 .1 .0 ∙ b .loop .inv .0 .same-v
+    c .before .before .before .before .before .before .before .before .before .fill-run .kept .1 .1 .1 .1 .0 ∙ c .before .before .before .before .before .before .before .before .before .before .before .before .before .before .before .loop .inv .0 .same-v
 
 same-length-2 : tie.Need-same-length-2 Inv-loop μ-loop
 same-length-2 c =
-    let a = c .before .before .before .before .before .before .before .before .before in
-    let b = a .before .before .before .before .before in
-    a .fill-run .kept .1 .1 .1 .1 .0 ∙ b .loop .inv .1 .same-v
+    c .before .before .before .before .before .before .before .before .before .fill-run .kept .1 .1 .1 .1 .1 .0 ∙ c .before .before .before .before .before .before .before .before .before .before .before .before .before .before .before .loop .inv .1 .same-v
 
 same-length-3 : tie.Need-same-length-3 Inv-loop μ-loop
 same-length-3 c =
-    let a = c .before .before .before .before .before .before .before .before .before in
-    let b = a .before .before .before .before .before in
-    a .fill-run .kept .1 .1 .1 .1 .1 .0 ∙ b .loop .inv .0 .same-p
+    c .before .before .before .before .before .before .before .before .before .fill-run .kept .1 .1 .1 .1 .1 .1 .0 ∙ c .before .before .before .before .before .before .before .before .before .before .before .before .before .before .before .loop .inv .0 .same-p
 
 returns : tie.Need-returns Inv-loop μ-loop
 returns c =
-    let a = c .before .before .before .before .before .before .before .before .before in
-    let b = a .before .before .before .before .before in
-    let o = b .loop .inv in
-    let w = a .fill-run .ensures in
+    let o = c .before .before .before .before .before .before .before .before .before .before .before .before .before .before .before .loop .inv in
+    let w = c .before .before .before .before .before .before .before .before .before .fill-run .ensures in
     let e = via stepOf (w .0) (c .before .number .given .1) in
     let u = owed-off (names _) startOf flagOf (spot 0 0) refl _ _ _ _ _ (o .0) _ _ _ _ (w .1 .0) e in
     let v = owed-off (names _) lengthOf flagOf (spot 0 0) refl _ _ _ _ _ (o .1) _ _ _ _ (w .1 .1) e in
@@ -113,6 +104,7 @@ fill-spec =
     (tie.spec
     Inv-loop
     μ-loop
+    short-numbers-requires
     loop-holds
     fill-run-requires
     enum-known-next

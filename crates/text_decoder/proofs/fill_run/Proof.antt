@@ -15,8 +15,8 @@ use Rattle.text.specs.Name.{startOf, lengthOf}
 use Rattle.text_decoder.proofs.fill_run.Statement.{statement}
 use Rattle.text_decoder.proofs.fill_run.Tie as tie
 
-head-at-requires : tie.Need-head-at-requires
-head-at-requires c κs = search needs
+head-of-requires : tie.Need-head-of-requires
+head-of-requires c κs = search needs
 
 enum-known-c : tie.Need-enum-known-c
 enum-known-c c = search needs
@@ -26,17 +26,17 @@ unfolding runOf
 fill-repeat-requires c κs =
     let a = c .before .before .before .before in
     let b = a .before .before .before .before .before .before .before in
-    let r = via headOf (a .before .before .head-at .ensures) (a .c .given .1) in
+    let r = via headOf (a .before .before .head-of .ensures) (a .c .given .1) in
     let h = b .pre in
     let e = run-head textE _ _ _ _ (h .0 .0) r in
-    (head-known _ _ _ _ r .2, (room-eq (readings-eq e) (h .1 .0), room-eq (readings-eq e) (h .1 .1)))
+    (head-known _ _ _ _ r .2, (room-eq (readings-eq e) (h .1 .0), room-eq (readings-eq e) (h .1 .1 .0)))
 
 enum-known-c-2 : tie.Need-enum-known-c-2
 enum-known-c-2 c = search needs
 
 add-fill-literal : tie.Need-add-fill-literal
 add-fill-literal c =
-    let r = via headOf (c .before .before .before .head-at .ensures) (c .before .c2 .given .1) in
+    let r = via headOf (c .before .before .before .head-of .ensures) (c .before .c2 .given .1) in
     let h = head-known _ _ _ _ r in
     omega arith
 
@@ -45,10 +45,10 @@ unfolding runOf
 fill-literal-requires c κs =
     let a = c .before .before .before .before in
     let b = a .before .before .before .before .before .before .before in
-    let r = via headOf (a .before .before .head-at .ensures) (a .c2 .given .1) in
+    let r = via headOf (a .before .before .head-of .ensures) (a .c2 .given .1) in
     let h = b .pre in
     let e = run-head textE _ _ _ _ (h .0 .0) r in
-    (room-eq (readings-eq e) (h .1 .0), room-eq (readings-eq e) (h .1 .1))
+    (room-eq (readings-eq e) (h .1 .0), room-eq (readings-eq e) (h .1 .1 .0))
 
 enum-known-c-3 : tie.Need-enum-known-c-3
 enum-known-c-3 c = search needs
@@ -58,15 +58,15 @@ unfolding runOf
 fill-same-requires c κs =
     let a = c .before .before .before .before in
     let b = a .before .before .before .before .before .before .before in
-    let r = via headOf (a .before .before .head-at .ensures) (a .c3 .given .1) in
+    let r = via headOf (a .before .before .head-of .ensures) (a .c3 .given .1) in
     let h = b .pre in
     let e = run-head textE _ _ _ _ (h .0 .0) r in
-    (room-same _ _ absent (room-eq (readings-eq e) (h .1 .0)), h .1 .0 .even, h .1 .1 .even)
+    (room-same _ _ absent (room-eq (readings-eq e) (h .1 .0)), h .1 .0 .even, h .1 .1 .0 .even)
 
-add-t39 : tie.Need-add-t39
-add-t39 c =
+add-t40 : tie.Need-add-t40
+add-t40 c =
     let a = c .before .before .before .before .before .before .before .before .before .before .before in
-    let r = via headOf (a .before .before .head-at .ensures) (a .c3 .given .1) in
+    let r = via headOf (a .before .before .head-of .ensures) (a .c3 .given .1) in
     let h = head-known _ _ _ _ r in
     omega arith
 
@@ -88,7 +88,7 @@ returns c =
     let a = c .before .before .before .before .before .before in
     let b = a .before .before .before .before .before in
     let d = b .before .before .before .before .before .before .before in
-    let r = via headOf (b .before .before .head-at .ensures) (b .c .given .1) in
+    let r = via headOf (b .before .before .head-of .ensures) (b .c .given .1) in
     let h = d .pre in
     let e = run-head textE _ _ _ _ (h .0 .0) r in
     let w = a .fill-repeat .ensures in
@@ -111,7 +111,7 @@ returns-2 c =
     let a = c .before .before .before .before .before .before in
     let b = a .before .before .before .before .before in
     let d = b .before .before .before .before .before .before .before in
-    let r = via headOf (b .before .before .head-at .ensures) (b .c2 .given .1) in
+    let r = via headOf (b .before .before .head-of .ensures) (b .c2 .given .1) in
     let h = d .pre in
     let e = run-head textE _ _ _ _ (h .0 .0) r in
     let w = a .fill-literal .ensures in
@@ -134,7 +134,7 @@ returns-3 c =
     let a = c .before .before .before .before .before .before in
     let b = a .before .before .before .before .before in
     let d = b .before .before .before .before .before .before .before in
-    let r = via headOf (b .before .before .head-at .ensures) (b .c3 .given .1) in
+    let r = via headOf (b .before .before .head-of .ensures) (b .c3 .given .1) in
     let h = d .pre in
     let e = run-head textE _ _ _ _ (h .0 .0) r in
     let w = a .fill-same .ensures in
@@ -146,7 +146,7 @@ returns-3 c =
 returns-4 : tie.Need-returns-4
 unfolding runOf
 returns-4 c =
-    let r = via headOf (c .before .before .before .head-at .ensures) (c .before .number .given .1) in
+    let r = via headOf (c .before .before .before .head-of .ensures) (c .before .number .given .1) in
     let h = c .before .before .before .before .before .before .before .before .pre in
     let e = run-head textE _ _ _ _ (h .0 .0) r in
     let u = wrote-run e refl (wrote-none startOf flagOf _ _ _) in
@@ -157,7 +157,7 @@ pub fill-run-spec : {M : Type 1} → statement M
 fill-run-spec =
     tie.close
     (tie.spec
-    head-at-requires
+    head-of-requires
     enum-known-c
     fill-repeat-requires
     enum-known-c-2
@@ -165,7 +165,7 @@ fill-run-spec =
     fill-literal-requires
     enum-known-c-3
     fill-same-requires
-    add-t39
+    add-t40
     enum-known-number
     same-length
     same-length-2
