@@ -1,9 +1,8 @@
 //! Whether a column is in our form, document 02, [13]: what the crate's decoders, which are iterators, give of a sound one, written again by
 //! its encoders, and the two compared. A faulty one has the decoders' fault; 17 is document 02's.
 
-use super::columns::{all_columns, changed, Kind, Recorded};
-use super::kinds::{Columns, BOOLEANS, DELTAS, INTEGERS, NAMES};
-use super::text::telling_columns;
+use super::columns::{changed, Kind, Recorded};
+use super::kinds::{Family, BOOLEANS, DELTAS, INTEGERS, NAMES};
 use super::{comment, Options, Record};
 use crate::numbers::{write_i64, write_u64};
 use crate::random::Random;
@@ -38,11 +37,6 @@ fn formed(out: &mut String, kind: &Kind, column: &[u8]) -> bool {
     formed_as(out, kind, kind.types[0], column).is_some()
 }
 
-const FORMED: Recorded = Recorded {
-    by: formed,
-    without: "their counts make more than 17000 readings, which the crate lists one by one, or pass the limit",
-};
-
 /// A column, and what the crate's encoder makes of the readings that it has before a fault, which is its own form.
 fn formed_twice(out: &mut String, kind: &Kind, typ: u64, column: &[u8]) {
     if let Some(fresh) = formed_as(out, kind, typ, column) {
@@ -62,6 +56,16 @@ fn damaged(out: &mut String, kind: &Kind, column: &[u8], random: &mut Random) {
         formed_twice(out, kind, typ, &other);
     }
 }
+
+const FORMS: Family = Family {
+    recorded: Recorded {
+        by: formed,
+        without: "their counts make more than 17000 readings, which the crate lists one by one, or pass the limit",
+    },
+    most: 5,
+    damaged,
+    by_chance: "by chance: the crate's columns, and wasteful ones; each cut at every byte and with bytes changed, and what the crate's encoder makes of them",
+};
 
 /// Around these a count takes a byte more.
 const LENGTHS: [u64; 11] = [1, 2, 62, 63, 64, 65, 126, 127, 128, 129, 8192];
@@ -113,47 +117,15 @@ fn all_split(out: &mut String) {
 pub fn all(out: &mut String, options: &Options, random: &mut Random) {
     comment(out, "whether a column is what the crate's encoder makes of what its decoder gives, over strict numbers, and the place of the first byte that differs; the faults (1, 2, 3, 14 or 15) are the decoder's; 6 and 11 (17) are documents 01's and 02's");
     for columns in [INTEGERS, DELTAS, BOOLEANS, NAMES] {
-        of_kind(out, &columns, options, random);
+        FORMS.of_kind(out, &columns, options, random);
     }
     all_split(out);
-    comment(
-        out,
-        "names of every length of UTF-8, and wrong neighbours of them, cut at every byte",
-    );
-    for column in telling_columns() {
-        for end in 1..=column.len() {
-            formed(out, NAMES.kind, &column[..end]);
-        }
-    }
+    FORMS.of_names(out);
     comment(out, "types that no call serves, before any fault");
     for typ in [0, 6, 7, 8, 0x12, 0xff] {
         for column in [&[][..], &[2, 5], &[1, 5], &[2], &[0x80, 0]] {
             let record = Record::call("column_form").number(typ).bytes(column);
             record.refused_at(17, 0).number(0).number(0).end(out);
-        }
-    }
-}
-
-fn of_kind(out: &mut String, columns: &Columns, options: &Options, random: &mut Random) {
-    let kind = columns.kind;
-    let most = if options.lean { 3 } else { 5 };
-    all_columns(out, kind, columns.alphabet, most, &FORMED);
-    comment(
-        out,
-        "the crate's columns of long runs, and those cut by a byte",
-    );
-    for column in (columns.long)() {
-        if column.len() < 1000 || !options.lean {
-            formed(out, kind, &column);
-            formed(out, kind, &column[..column.len().saturating_sub(1)]);
-        }
-    }
-    comment(out, "by chance: the crate's columns, and wasteful ones; each cut at every byte and with bytes changed, and what the crate's encoder makes of them");
-    for _ in 0..options.count {
-        let column = (columns.chance)(random);
-        // one in few of those that a long name makes long
-        if column.len() < 100 || random.below(20) == 0 {
-            damaged(out, kind, &column, random);
         }
     }
 }

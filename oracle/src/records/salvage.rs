@@ -1,9 +1,8 @@
 //! What survives of a column, document 02, [7]: the readings that the crate's decoders, which are iterators, give before their
 //! first fault, and what its encoders make of those. The call's own refusals, 17, 8, 9 and 10, are document 02's.
 
-use super::columns::{all_columns, changed, Kind, Recorded, Slices, Walked};
-use super::kinds::{Columns, BOOLEANS, DELTAS, INTEGERS, NAMES};
-use super::text::telling_columns;
+use super::columns::{changed, Kind, Recorded, Slices, Walked};
+use super::kinds::{Family, BOOLEANS, DELTAS, INTEGERS, NAMES};
 use super::{comment, Options, Record};
 use crate::random::Random;
 use crate::TOO_MANY;
@@ -103,11 +102,6 @@ fn saved(out: &mut String, kind: &Kind, column: &[u8]) -> bool {
     survivors.is_some()
 }
 
-const SAVED: Recorded = Recorded {
-    by: saved,
-    without: "their counts make more than 17000 readings, which the crate lists one by one, or pass the limit; or no line holds the list",
-};
-
 /// The same, and into slots and outputs of one more and one fewer.
 fn saved_tightly(out: &mut String, kind: &Kind, column: &[u8]) {
     if !saved(out, kind, column) {
@@ -174,43 +168,21 @@ fn damaged(out: &mut String, kind: &Kind, column: &[u8], random: &mut Random) {
     }
 }
 
+const SALVAGES: Family = Family {
+    recorded: Recorded {
+        by: saved,
+        without: "their counts make more than 17000 readings, which the crate lists one by one, or pass the limit; or no line holds the list",
+    },
+    most: 4,
+    damaged,
+    by_chance: "by chance: the crate's columns, and wasteful ones; each cut at every byte, and with bytes changed",
+};
+
 /// All columns of few bytes, long runs, names of every length of character, and by chance.
 pub fn all(out: &mut String, options: &Options, random: &mut Random) {
     comment(out, "the readings kept, the column's fault (1, 2, 3, 14 or 15) and the bytes written are those of the crate's decoders and encoders, over strict numbers; 6, the starts of names, each held to the crate's string, and the call's own 11 (17), 8, 9 and a (10) are document 02's");
     for columns in [INTEGERS, DELTAS, BOOLEANS, NAMES] {
-        of_kind(out, &columns, options, random);
+        SALVAGES.of_kind(out, &columns, options, random);
     }
-    comment(
-        out,
-        "names of every length of UTF-8, and wrong neighbours of them, cut at every byte",
-    );
-    for column in telling_columns() {
-        for end in 1..=column.len() {
-            saved(out, NAMES.kind, &column[..end]);
-        }
-    }
-}
-
-fn of_kind(out: &mut String, columns: &Columns, options: &Options, random: &mut Random) {
-    let kind = columns.kind;
-    let most = if options.lean { 3 } else { 4 };
-    all_columns(out, kind, columns.alphabet, most, &SAVED);
-    comment(
-        out,
-        "the crate's columns of long runs, and those cut by a byte",
-    );
-    for column in (columns.long)() {
-        if column.len() < 1000 || !options.lean {
-            saved(out, kind, &column);
-            saved(out, kind, &column[..column.len().saturating_sub(1)]);
-        }
-    }
-    comment(out, "by chance: the crate's columns, and wasteful ones; each cut at every byte, and with bytes changed");
-    for _ in 0..options.count {
-        let column = (columns.chance)(random);
-        // one in few of those that a long name makes long
-        if column.len() < 100 || random.below(20) == 0 {
-            damaged(out, kind, &column, random);
-        }
-    }
+    SALVAGES.of_names(out);
 }
