@@ -1,14 +1,11 @@
 -- Readings that are held: their bytes compared, and what that says of the stretches. Assumes nothing.
-use Prim.Native.Nat.{ℕ, suc, _+_, _-_, _≤_, _<_}
+use Prim.Native.Nat.{ℕ, _+_, _-_, _≤_, _<_}
 use mathlib.Core.Path.{_≡_, refl, sym, _∙_, ap, subst}
 use mathlib.Core.List.{List, [], _∷_, _++_}
 use mathlib.Core.Option.{Option, none, some}
-use mathlib.Core.Bool.{Bool, true, false, _&&_}
+use mathlib.Core.Bool.{Bool, true, false}
 use native.Mathlib.Omega.{arith}
-use lib.Dec.{eqb}
-use lib.ListN.{length, getD, take, drop, replicate, length-drop}
-use lib.Seq.{drop-cons, length-take-le}
-use borrow.Author.Tests.{eq-eqb, ne-eqb}
+use lib.ListN.{length, drop, replicate}
 use Rattle.encoding.specs.Stretches.{stretches}
 use Rattle.encoding.specs.Ahead.{Off, Closed}
 use Rattle.encoding.proofs.Looking.{off-none, off-some, closed-none}
@@ -19,75 +16,13 @@ use Rattle.text_encoder.specs.Walks.{heldIn, Within, nameIn, AbsentIf, s
 use Rattle.text_encoder.specs.declared.walk.Held.{Held}
 use Rattle.text_encoder.specs.declared.walk.Held.the-variants as held
 
--- ---- bytes compared one by one
-
-bytes-first : (s : List ℕ) (p n m : ℕ) → p < length s → n ≡ suc m → bytesAt s p n ≡ getD s p 0 ∷ bytesAt s (p + 1) m
-bytes-first s p n m l e =
-    let z : suc p ≡ p + 1 = omega arith in
-    ap (λ (k : ℕ). take k (drop p s)) e ∙ ap (take (suc m)) (drop-cons s p 0 l) ∙ ap (λ (k : ℕ). getD s p 0 ∷ take m (drop k s)) z
-
--- the comparison that is owed at the start is the one that is owed behind the first k bytes
-pub record Compared (s : List ℕ) (i : ℕ) (t : List ℕ) (j n k : ℕ) : Type 0 where
-  pub owed : sameBytes (bytesAt s i n) (bytesAt t j n) ≡ sameBytes (bytesAt s (i + k) (n - k)) (bytesAt t (j + k) (n - k))
-
-module _ (s : List ℕ) (i : ℕ) (t : List ℕ) (j n : ℕ) where
-  pub compare-start : Compared s i t j n 0
-  compare-start =
-      let a : i ≡ i + 0 = omega arith in
-      let b : j ≡ j + 0 = omega arith in
-      let c : n ≡ n - 0 = omega arith in
-      record {
-        owed = ap (λ (k : ℕ). sameBytes (bytesAt s k n) (bytesAt t j n)) a
-            ∙ ap (λ (k : ℕ). sameBytes (bytesAt s (i + 0) n) (bytesAt t k n)) b
-            ∙ ap (λ (k : ℕ). sameBytes (bytesAt s (i + 0) k) (bytesAt t (j + 0) k)) c;
-      }
-
-  module _ (k : ℕ) (a : i + n ≤ length s) (b : j + n ≤ length t) (l : k < n) where
-    compare-first : sameBytes (bytesAt s (i + k) (n - k)) (bytesAt t (j + k) (n - k))
-        ≡ eqb (getD s (i + k) 0) (getD t (j + k) 0) && sameBytes (bytesAt s (i + (k + 1)) (n - (k + 1))) (bytesAt t (j + (k + 1)) (n - (k + 1)))
-    unfolding sameBytes
-    compare-first =
-        let m : ℕ = n - (k + 1) in
-        let z : n - k ≡ suc m = omega arith in
-        let x : i + k + 1 ≡ i + (k + 1) = omega arith in
-        let y : j + k + 1 ≡ j + (k + 1) = omega arith in
-        ap (λ (v : List ℕ). sameBytes v (bytesAt t (j + k) (n - k))) (bytes-first s (i + k) (n - k) m (omega arith) z)
-        ∙ ap (λ (v : List ℕ). sameBytes (getD s (i + k) 0 ∷ bytesAt s (i + k + 1) m) v) (bytes-first t (j + k) (n - k) m (omega arith) z)
-        ∙ ap (λ (p : ℕ). eqb (getD s (i + k) 0) (getD t (j + k) 0) && sameBytes (bytesAt s p m) (bytesAt t (j + k + 1) m)) x
-        ∙ ap (λ (p : ℕ). eqb (getD s (i + k) 0) (getD t (j + k) 0) && sameBytes (bytesAt s (i + (k + 1)) m) (bytesAt t p m)) y
-
-    pub compare-other : (getD s (i + k) 0 ≡ getD t (j + k) 0 → ⊥) → Compared s i t j n k → false ≡ sameBytes (bytesAt s i n) (bytesAt t j n)
-    compare-other f h =
-        sym (h .owed ∙ compare-first
-        ∙ ap (λ (u : Bool). u && sameBytes (bytesAt s (i + (k + 1)) (n - (k + 1))) (bytesAt t (j + (k + 1)) (n - (k + 1)))) (ne-eqb _ _ f))
-
-    pub compare-more : getD s (i + k) 0 ≡ getD t (j + k) 0 → Compared s i t j n k → Compared s i t j n (k + 1)
-    compare-more f h =
-        record {
-          owed = h .owed ∙ compare-first
-              ∙ ap (λ (u : Bool). u && sameBytes (bytesAt s (i + (k + 1)) (n - (k + 1))) (bytesAt t (j + (k + 1)) (n - (k + 1)))) (eq-eqb _ _ f);
-        }
-
-  pub compare-end : (k : ℕ) → n ≤ k → Compared s i t j n k → true ≡ sameBytes (bytesAt s i n) (bytesAt t j n)
-  unfolding sameBytes
-  compare-end k l h =
-      let z : n - k ≡ 0 = omega arith in
-      sym (h .owed ∙ ap (λ (m : ℕ). sameBytes (bytesAt s (i + k) m) (bytesAt t (j + k) m)) z)
-
--- names of two lengths
-uneven : (v w : List ℕ) → (length v ≡ length w → ⊥) → sameBytes v w ≡ false
-uneven v w f = go (sameBytes v w) refl
-  where
-    go : (b : Bool) → sameBytes v w ≡ b → b ≡ false
-    go true e = absurd (f (ap length (text-laws .same-eq v w e)))
-    go false e = refl
-
-pub names-uneven : (s : List ℕ) (i n : ℕ) (t : List ℕ) (j m : ℕ) → i + n ≤ length s → j + m ≤ length t → (n ≡ m → ⊥)
-    → false ≡ sameBytes (bytesAt s i n) (bytesAt t j m)
-names-uneven s i n t j m a b f =
-    let x = length-take-le n (drop i s) (omega (arith, length-drop i s)) in
-    let y = length-take-le m (drop j t) (omega (arith, length-drop j t)) in
-    sym (uneven (bytesAt s i n) (bytesAt t j m) (λ e. f (omega arith)))
+-- two names, by where they begin and end
+pub parts-same : (s : List ℕ) (i n : ℕ) (t : List ℕ) (j m : ℕ) {r : Bool} → r ≡ sameBytes (bytesAt s i (i + n - i)) (bytesAt t j (j + m - j))
+    → r ≡ sameBytes (bytesAt s i n) (bytesAt t j m)
+parts-same s i n t j m e =
+    let x : i + n - i ≡ n = omega arith in
+    let y : j + m - j ≡ m = omega arith in
+    e ∙ ap (λ (k : ℕ). sameBytes (bytesAt s i k) (bytesAt t j (j + m - j))) x ∙ ap (λ (k : ℕ). sameBytes (bytesAt s i n) (bytesAt t j k)) y
 
 -- ---- readings that are held
 

@@ -27,30 +27,12 @@ pub(crate) struct Found {
     pub walk: Splicing,
 }
 
-// Are the n bytes of s from i on those of t from j on?
-fn same_bytes(s: &[u8], i: usize, t: &[u8], j: usize, n: usize) -> bool
-    requires { ⌜ (i + n ≤ length (now s)) × (j + n ≤ length (now t)) ⌝ }
-    ensures { λ r. ⌜ r ≡ sameBytes (bytesAt (now (s .entry)) i n) (bytesAt (now (t .entry)) j n) ⌝ }
-{
-    let mut k: usize = 0;
-    while k < n {
-        if s[i + k] != t[j + k] {
-            return false;
-        }
-        k += 1;
-    }
-    true
-}
-
-// The same of two names, whose lengths may differ.
+// Are the n bytes of s from i on the m bytes of t from j on?
 fn same_names(s: &[u8], i: usize, n: usize, t: &[u8], j: usize, m: usize) -> bool
     requires { ⌜ (i + n ≤ length (now s)) × (j + m ≤ length (now t)) ⌝ }
     ensures { λ r. ⌜ r ≡ sameBytes (bytesAt (now (s .entry)) i n) (bytesAt (now (t .entry)) j m) ⌝ }
 {
-    if n != m {
-        return false;
-    }
-    same_bytes(s, i, t, j, n)
+    text::same_bytes(&s[i..i + n], &t[j..j + m])
 }
 
 // Is the reading that is held the name of n bytes of s from i on?
