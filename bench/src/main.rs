@@ -2,9 +2,13 @@
 //!
 //! A row: what, the size, ours and the Rust in nanoseconds a unit (a reading, a number, a row of a table), and ours by the Rust's: below 1 we
 //! are ahead. Each side's time is the least of its turns. Our buffers are lent and not cleared between turns; the Rust's grow, as its calls do.
+//! Where GRUNDAVOK_BEST names this program as another build of the Rust has it, that one measures each row too, directly behind this one, and its
+//! three numbers stand beside.
 
+mod best;
 mod ours;
 
+use best::{Best, Measured};
 use oracle::random::Random;
 use oracle::{boolean, delta, numbers, rle, table};
 use std::hint::black_box;
@@ -15,8 +19,11 @@ const SIZES: [usize; 5] = [100, 1_000, 10_000, 100_000, 1_000_000];
 
 struct Rows {
     words: Vec<String>,
-    ahead: usize,
+    best: Best,
     rows: usize,
+    /// Rows of which ours is not slower than the Rust of this build, and those of at most 1.1 times its time in the other.
+    ahead: usize,
+    near: usize,
 }
 
 impl Rows {
@@ -26,7 +33,7 @@ impl Rows {
 
     /// Times both in turns, `units` a call, where the row is wanted.
     fn row<A, B>(&mut self, name: &str, size: usize, units: usize, mut ours: impl FnMut() -> A, mut rust: impl FnMut() -> B) {
-        if !self.wants(name) {
+        if !self.wants(name) || !self.best.turn() {
             return;
         }
         let guess = time(&mut rust, 1).max(time(&mut ours, 1)).max(20.0);
@@ -36,10 +43,31 @@ impl Rows {
             a = a.min(time(&mut ours, calls));
             b = b.min(time(&mut rust, calls));
         }
-        let (a, b) = (a / units as f64, b / units as f64);
-        println!("{name:<34} {size:>9} {a:>10.2} {b:>10.2} {:>8.2}", a / b);
+        let here = Measured { ours: a / units as f64, rust: b / units as f64 };
+        let there = self.best.beside(&here);
         self.rows += 1;
-        self.ahead += usize::from(a <= b);
+        self.ahead += usize::from(here.ratio() <= 1.0);
+        self.near += usize::from(there.as_ref().is_some_and(|m| m.ratio() <= 1.1));
+        if !self.best.asked() {
+            println!("{name:<34} {size:>9} {here} {}", there.map_or(String::new(), |m| m.to_string()));
+        }
+    }
+
+    /// What no one can go below: a time alone, which is no row of ours.
+    fn limit<A>(&self, name: &str, size: usize, units: usize, mut f: impl FnMut() -> A) {
+        if self.wants(name) && !self.best.asked() {
+            let least = (0..TURNS).map(|_| time(&mut f, 100)).fold(f64::MAX, f64::min);
+            println!("{name:<34} {size:>9} {:>10.2}", least / units as f64);
+        }
+    }
+
+    fn said(&self) {
+        if !self.best.asked() {
+            println!("{} rows, ours is not slower in {}", self.rows, self.ahead);
+            if self.best.there() {
+                println!("beside the other build ours takes at most 1.1 of its time in {}", self.near);
+            }
+        }
     }
 }
 
@@ -289,10 +317,16 @@ fn edited(bytes: &[u8], splice: impl Fn(&[u8]) -> Vec<u8>) -> Vec<u8> {
     block(&parts)
 }
 
-/// Edits of the first of three columns.
+/// Edits of the first of three columns, and what merely copying the block takes.
 fn edits(rows: &mut Rows, n: usize) {
     let among = |own: Vec<u8>, spec: u32| block(&[(spec, own), (0x27, vec![1; 1_000]), (0x37, vec![2; 1_000])]);
     let list = stroke("smooth", n);
+    let whole = among(delta::encode(&list), 0x13);
+    let mut copied = vec![0u8; whole.len()];
+    rows.limit("edit: memcpy of the delta block", n, n, || {
+        copied.copy_from_slice(black_box(&whole));
+        black_box(&copied).len()
+    });
     macro_rules! optional {
         ($kind:ident, $spec:expr, $what:expr, $list:expr, $fresh:expr, $splice:path, $places:expr) => {
             let fresh = $fresh;
@@ -345,12 +379,19 @@ fn edits(rows: &mut Rows, n: usize) {
 }
 
 fn main() {
+    let words: Vec<String> = std::env::args().skip(1).collect();
+    let best = Best::new(&words);
+    if !best.asked() {
+        let three = format!("{:>10} {:>10} {:>8}", "ours ns", "Rust ns", "ratio");
+        println!("{:<34} {:>9} {three} {}", "what", "size", if best.there() { &three } else { "" });
+    }
     let mut rows = Rows {
-        words: std::env::args().skip(1).collect(),
-        ahead: 0,
+        words,
+        best,
         rows: 0,
+        ahead: 0,
+        near: 0,
     };
-    println!("{:<34} {:>9} {:>10} {:>10} {:>8}", "what", "size", "ours ns", "Rust ns", "ratio");
     readers(&mut rows);
     tables(&mut rows);
     for shape in SHAPES {
@@ -361,5 +402,5 @@ fn main() {
     for n in SIZES {
         edits(&mut rows, n);
     }
-    println!("{} rows, ours is not slower in {}", rows.rows, rows.ahead);
+    rows.said();
 }

@@ -1,3 +1,4 @@
+pub mod Adding
 pub mod Deltas
 pub mod DifferenceLaws
 pub mod Faults

@@ -22,8 +22,13 @@ ghost use Rattle.delta_decoder.specs.Difference.{i64E};
 ghost use Rattle.delta_decoder.specs.Sofar.{sumOf, plusTimes, timesHeld, sofar, summing, deltaRun};
 ghost use Rattle.delta_decoder.specs.Sums.{deltaTrace, lastSum};
 
+mod added;
 pub mod sums;
 
+use crate::added::Added;
+use crate::added::Near;
+use crate::added::add_at;
+use crate::added::add_near;
 use crate::sums::HALF;
 use crate::sums::Sum;
 use crate::sums::add;
@@ -81,20 +86,22 @@ fn scan_literal(table: &[i8; 256], s: &[u8], q: usize, total: u64, c: u64, sum: 
     let mut left = c;
     let mut n = sum;
     while 0 < left {
-        match difference(table, s, at) {
-            ParsedI64::Number(d, next) => match add(n, d) {
-                Sum::Is(m) => {
+        match add_near(s, at, n) {
+            Near::To(m, next) => {
+                at = next;
+                left -= 1;
+                n = m;
+            }
+            Near::Other => match add_at(table, s, at, n) {
+                Added::To(m, next) => {
                     at = next;
                     left -= 1;
                     n = m;
                 }
-                Sum::Outside => {
-                    return Step::Off(6, at);
+                Added::Off(k, place) => {
+                    return Step::Off(k, place);
                 }
             },
-            ParsedI64::Refused(k, place) => {
-                return Step::Off(k, place);
-            }
         }
     }
     Step::On(at, total, n)
@@ -379,9 +386,17 @@ fn fill_literal(
     let mut left = c;
     let mut n = sum;
     while 0 < left {
-        match difference(table, s, at) {
-            ParsedI64::Number(d, next) => match add(n, d) {
-                Sum::Is(m) => {
+        match add_near(s, at, n) {
+            Near::To(m, next) => {
+                values[i] = sum_of(m);
+                present[i] = 1;
+                at = next;
+                i += 1;
+                left -= 1;
+                n = m;
+            }
+            Near::Other => match add_at(table, s, at, n) {
+                Added::To(m, next) => {
                     values[i] = sum_of(m);
                     present[i] = 1;
                     at = next;
@@ -389,13 +404,10 @@ fn fill_literal(
                     left -= 1;
                     n = m;
                 }
-                Sum::Outside => {
-                    return Step::Off(6, at);
+                Added::Off(k, place) => {
+                    return Step::Off(k, place);
                 }
             },
-            ParsedI64::Refused(k, place) => {
-                return Step::Off(k, place);
-            }
         }
     }
     Step::On(at, total, n)

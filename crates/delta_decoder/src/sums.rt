@@ -5,7 +5,7 @@ ghost use Rattle.delta_decoder.specs.Cases.{sumIs};
 ghost use Rattle.delta_decoder.specs.Sofar.{sumOf, plus, plusTimes, timesHeld};
 use leb128::magnitude;
 
-const ALL: u64 = 18446744073709551615;
+pub(crate) const ALL: u64 = 18446744073709551615;
 
 // The sum 0.
 pub const HALF: u64 = 9223372036854775808;

@@ -7,4 +7,5 @@ pub mod Refusals
 pub mod Scanning
 pub mod Short
 pub mod Sound
+pub mod Two
 pub mod Twos
