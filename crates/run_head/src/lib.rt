@@ -1,6 +1,6 @@
 // How a run of a run-length column begins, the same for every element: its count read, and judged for 5.
 ghost use mathlib.Core.Path.{_≡_};
-ghost use Prim.Native.Nat.{_+_};
+ghost use Prim.Native.Nat.{_+_, _≤_, _<_};
 ghost use lib.Dec.{leb};
 ghost use lib.IntN.{natAbs};
 ghost use Rattle.leb128.specs.Got.{got};
@@ -90,12 +90,65 @@ pub fn head_at(s: &[u8], at: usize, had: u64) -> Head
     }
 }
 
-// The same by a table that is lent, for whoever reads many.
-pub fn head_by(table: &[i8; 256], s: &[u8], at: usize, had: u64) -> Head
+// The same by a table that is lent: a count of any length.
+fn head_far(table: &[i8; 256], s: &[u8], at: usize, had: u64) -> Head
     ensures { λ r. ⌜ headOf r ≡ headBy (now (table .entry)) (now (s .entry)) at had ⌝ }
 {
     match leb128::i64_by(table, s, at) {
         ParsedI64::Number(c, q) => begun_at(s, at, had, c, q),
         ParsedI64::Refused(n, place) => Head::Refused(n, place),
     }
+}
+
+// No count of one byte passes the limit behind so many readings.
+const NEAR: u64 = LIMIT - 256;
+
+// The mark that more bytes follow.
+const MORE: i64 = -128;
+
+fn wide(b: u8) -> u64
+    ensures { λ r. ⌜ r ≡ b ⌝ }
+{
+    b as u64
+}
+
+fn place_of(b: u8) -> usize
+    ensures { λ r. ⌜ (r ≡ b) × (r < 256) ⌝ }
+{
+    b as usize
+}
+
+fn number_of(x: i8) -> i64
+    ensures { λ r. ⌜ (r ≡ x) × (natAbs r ≤ 128) ⌝ }
+{
+    x as i64
+}
+
+// For whoever reads many: counts of one byte in place.
+pub fn head_by(table: &[i8; 256], s: &[u8], at: usize, had: u64) -> Head
+    ensures { λ r. ⌜ headOf r ≡ headBy (now (table .entry)) (now (s .entry)) at had ⌝ }
+{
+    if NEAR < had {
+        return head_far(table, s, at, had);
+    }
+    if at < s.len() {
+        let b = place_of(s[at]);
+        let x = number_of(table[b]);
+        let q = at + 1;
+        if x < 0 {
+            if x != MORE {
+                return Head::Literal(count_of(x), q);
+            }
+        } else if x == 0 {
+            if q < s.len() {
+                let c = s[q];
+                if c < 128 {
+                    return Head::Absent(wide(c), q + 1);
+                }
+            }
+        } else {
+            return Head::Repeat(count_of(x), q);
+        }
+    }
+    head_far(table, s, at, had)
 }

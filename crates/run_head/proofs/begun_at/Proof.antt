@@ -11,21 +11,9 @@ use Rattle.leb128.proofs.Twos.{is-neg, is-pos, same}
 use Rattle.leb128.specs.Got.{got}
 use Rattle.leb128.specs.Read.{u64At}
 use Rattle.encoding.specs.Head.{Head, judged, absentHead, begun}
+use Rattle.run_head.proofs.Begun.{negative, nought, positive}
 use Rattle.run_head.proofs.begun_at.Statement.{statement}
 use Rattle.run_head.proofs.begun_at.Tie as tie
-
-module _ (s : List ℕ) (at had q : ℕ) {x : ℤ} where
-  negative : {m n : ℕ} → x ≡ negsuc m → n ≡ natAbs x → judged had n at (Head.literal n q) ≡ begun s at had (got x q)
-  unfolding begun
-  negative h k = simp (h, k)
-
-  nought : x ≡ pos 0 → absentHead had q (u64At s q) ≡ begun s at had (got x q)
-  unfolding begun
-  nought h = simp h
-
-  positive : {m n : ℕ} → x ≡ pos m → (m ≡ 0 → ⊥) → n ≡ natAbs x → judged had n at (Head.repeat n q) ≡ begun s at had (got x q)
-  unfolding begun
-  positive h z k = simp (h, k, ne-eqb _ 0 z)
 
 count-of-requires : tie.Need-count-of-requires
 count-of-requires c κs = search needs
