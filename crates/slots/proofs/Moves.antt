@@ -5,8 +5,8 @@ use mathlib.Core.List.{List, _∷_, _++_, append-assoc}
 use Prim.Native.Nat.{ℕ, suc, _+_, _-_, _≤_, _<_}
 use native.Mathlib.Numerals.{add-one}
 use native.Mathlib.Omega.{arith}
-use lib.ListN.{length, getD, set, take, drop, replicate, length-append, length-drop, length-set, length-replicate, getD-replicate, List·getD-append}
-use lib.Seq.{paste, paste-zero, paste-suc, drop-paste, getD-drop, getD-take, take-suc, drop-cons, set-at, length-take-le}
+use lib.ListN.{length, getD, set, take, drop, replicate, length-append, length-drop, length-set, length-replicate, getD-replicate, List·getD-append, take-append-drop}
+use lib.Seq.{paste, paste-zero, paste-suc, drop-paste, getD-drop, getD-take, take-suc, take-add, drop-cons, set-at, length-take-le}
 
 module _ {A : Type 0} where
   -- the slots d after i elements of src were stored from `at` on
@@ -40,6 +40,10 @@ module _ {A : Type 0} where
       let f : i - at + 1 ≡ i + 1 - at = omega arith in
       let l = length-replicate (end - at) z in
       rw (e, f) at (put-turn {v = z} z k (omega arith) (omega (arith, l)) (sym (getD-replicate (end - at) (i - at) z z (omega arith))))
+
+  -- elements that stay where they are
+  pub stay : (d : List A) (from to n : ℕ) → to ≡ from → d ≡ paste d to (drop from d) n
+  stay d from to n e = rw (e, ← take-add from n d) (sym (take-append-drop (from + n) d))
 
   -- one that moves down: what it reads was not stored yet
   paste-past : (d : List A) (at : ℕ) (src : List A) (n i : ℕ) (z : A) → at ≤ length d → n ≤ length src → at + n ≤ i
