@@ -1,5 +1,5 @@
 -- The differences of a given list with their indices kept, and the last value before an index. Assumes nothing.
-use Prim.Native.Nat.{ℕ, zero, suc, _+_, _-_, _≤_, _<_}
+use Prim.Native.Nat.{ℕ, zero, suc, _+_, _-_, _^_, _≤_, _<_}
 use mathlib.Core.Path.{_≡_, refl, sym, _∙_, ap}
 use mathlib.Core.List.{List, [], _∷_}
 use mathlib.Core.Option.{Option, none, some}
@@ -9,12 +9,14 @@ use native.Mathlib.Numerals.{add-one}
 use lib.Dec.{eqb}
 use lib.IntN.{ℤ, pos, _-ℤ_}
 use lib.ListN.{length, getD, drop}
+use lib.Signed.{mag}
 use borrow.Author.Tests.{eq-eqb, ne-eqb}
 use Rattle.encoding.specs.Given.{slotList}
 use Rattle.encoding.proofs.Looking.{slot-drop, slot-past}
-use Rattle.delta_encoder.specs.Ahead.{diffsOf, diffs, lastOf, lastBefore, Narrow}
+use Rattle.delta_encoder.specs.Ahead.{diffsOf, diffs, lastOf, lastBefore, Narrow, Near}
 use Rattle.delta_decoder.specs.Difference.{holds}
 use Rattle.delta_encoder.specs.Differences.{differences, wideAt}
+use Rattle.delta_encoder.proofs.Held.{held-near}
 
 -- they are the differences of the list
 pub diffs-list : (z : ℤ) (v : List ℤ) (p : List ℕ) → slotList (diffsOf z v p) p ≡ differences z (slotList v p)
@@ -117,6 +119,21 @@ module _ (v : List ℤ) (p : List ℕ) (even : length p ≡ length v) (z : ℤ) 
   pub wide-end : length v ≤ k → wideAt k (differences z (drop k (slotList v p))) ≡ none
   unfolding wideAt differences
   wide-end l = ap (λ (xs : List (Option ℤ)). wideAt k (differences z xs)) (slot-past v p k l)
+
+-- values near to 0 have none that is wide
+near : (i : ℕ) (z : ℤ) (v : List ℤ) (p : List ℕ) → mag z < 2 ^ 62 → Near v (length v) → wideAt i (differences z (slotList v p)) ≡ none
+unfolding wideAt differences slotList
+near i z [] p f h = refl
+near i z (x ∷ v) [] f h = refl
+near i z (x ∷ v) (b ∷ p) f h = go (eqb b 0) (λ y g. near (suc i) y v p g (λ k l. h (suc k) (omega arith)))
+  where
+    go : (t : Bool) → ((y : ℤ) → mag y < 2 ^ 62 → wideAt (suc i) (differences y (slotList v p)) ≡ none)
+        → wideAt i (differences z (cond t none (some x) ∷ slotList v p)) ≡ none
+    go true r = r z f
+    go false r = let g : mag x < 2 ^ 62 = h 0 (omega arith) in rw (held-near x z g f) (r x g)
+
+pub near-narrow : (v : List ℤ) (p : List ℕ) → Near v (length v) → wideAt 0 (differences (pos 0) (slotList v p)) ≡ none
+near-narrow v p h = near 0 (pos 0) v p (omega arith) h
 
 -- where none is wide, each is held
 abbrev Held : ℕ → ℤ → List ℤ → List ℕ → Type 0

@@ -1,6 +1,6 @@
 -- Does an i64 hold a difference: by the signs and magnitudes of its two numbers. Assumes nothing.
 use Prim.Native.Nat.{ℕ, zero, suc, _+_, _-_, _^_, _≤_, _<_}
-use mathlib.Core.Path.{_≡_, sym, _∙_, ap}
+use mathlib.Core.Path.{_≡_, refl, sym, _∙_, ap}
 use mathlib.Core.Bool.{Bool, true, false, cond}
 use native.Mathlib.Omega.{arith}
 use lib.Dec.{ltb}
@@ -48,3 +48,10 @@ module _ (x y : ℤ) {a b : ℕ} (ea : a ≡ mag x) (eb : b ≡ mag y) where
       let e : x -ℤ y ≡ pos (mag x) -ℤ negsuc (mag y) = cc in
       let m : a + b + 1 ≡ mag (x -ℤ y) = omega (arith, ap mag e) in
       ap (λ (n : ℕ). ltb n (2 ^ 63)) m
+
+-- numbers near to 0 are near to each other
+pub held-near : (x y : ℤ) → mag x < 2 ^ 62 → mag y < 2 ^ 62 → holds (x -ℤ y) ≡ true
+held-near (pos a) (pos b) f g = sym (held-pos-pos (pos a) (pos b) (omega arith) (omega arith) refl refl)
+held-near (pos a) (negsuc b) f g = sym (held-pos-neg (pos a) (negsuc b) refl refl refl refl) ∙ lt-ltb (a + b + 1) (2 ^ 63) (omega arith)
+held-near (negsuc a) (pos b) f g = sym (held-neg-pos (negsuc a) (pos b) refl refl refl refl) ∙ lt-ltb (a + b) (2 ^ 63) (omega arith)
+held-near (negsuc a) (negsuc b) f g = sym (held-neg-neg (negsuc a) (negsuc b) (omega arith) (omega arith) refl refl)

@@ -1,12 +1,13 @@
 -- Looking ahead over a given list for its next stretch of differences: what the private functions of the writer ask and promise. No public
 -- promise cites it.
-use Prim.Native.Nat.{ℕ, zero, suc, _<_}
+use Prim.Native.Nat.{ℕ, zero, suc, _^_, _<_}
 use mathlib.Core.Path.{_≡_}
 use mathlib.Core.List.{List, [], _∷_}
 use mathlib.Core.Bool.{true, cond}
 use lib.Dec.{eqb}
 use lib.IntN.{ℤ, pos, _-ℤ_}
 use lib.ListN.{length, getD}
+use lib.Signed.{mag}
 use Rattle.delta_decoder.specs.Difference.{holds}
 
 -- the differences with their indices kept, 0 where a reading is absent; the first taken from z
@@ -32,3 +33,7 @@ lastBefore v p i = lastOf (pos 0) v p i
 pub record Narrow (v : List ℤ) (p : List ℕ) : Type 0 where
   pub even : length p ≡ length v
   pub held : (k : ℕ) → k < length v → holds (getD (diffs v p) k (pos 0)) ≡ true
+
+-- the first n values are near to 0: an i64 holds the difference of any two
+abbrev pub Near : List ℤ → ℕ → Type 0
+Near v n = (k : ℕ) → k < n → mag (getD v k (pos 0)) < 2 ^ 62

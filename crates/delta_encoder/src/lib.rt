@@ -2,6 +2,7 @@
 // differences found by looking ahead over the lent list, once for their size and once to write them. No difference is kept: each is taken
 // from the last value that was present.
 ghost use mathlib.Core.Path.{_≡_};
+ghost use mathlib.Core.Bool.{true};
 ghost use Prim.Native.Nat.{_+_, _-_, _*_, _≤_, _<_};
 ghost use lib.IntN.{pos, _-ℤ_};
 ghost use lib.ListN.{length, getD};
@@ -12,7 +13,7 @@ ghost use Rattle.encoding.specs.Cases.{answerOf};
 ghost use Rattle.encoding.specs.Given.{slotList, sized, Encoded};
 ghost use Rattle.encoding.specs.Limit.{limit};
 ghost use Rattle.encoding.specs.Writer.{allBytes, stretchBytes};
-ghost use Rattle.delta_encoder.specs.Ahead.{diffs, lastBefore, Narrow};
+ghost use Rattle.delta_encoder.specs.Ahead.{diffs, lastBefore, Narrow, Near};
 ghost use Rattle.delta_encoder.specs.Cases.{widthOf};
 ghost use Rattle.delta_decoder.specs.Difference.{sameZ, holds, i64E};
 ghost use Rattle.delta_encoder.specs.Differences.{differences, deltaBytes, wideAt, deltaJudged};
@@ -24,6 +25,9 @@ use leb128_writer::Written;
 
 // What the first difference is taken from.
 const ORIGIN: i64 = 0;
+
+// Magnitudes below this are near to 0: two of them together are below HALF.
+const QUARTER: u64 = 4611686018427387904;
 
 // Does an i64 hold every difference of a list? If not, the index of the first that it does not hold.
 enum Width {
@@ -49,10 +53,29 @@ fn is_held(v: i64, last: i64) -> bool
     true
 }
 
+// Is every value, an absent one too, so near to 0 that an i64 holds the difference of any two? No early way out, so that many are looked at
+// at once.
+fn are_near(values: &[i64]) -> bool
+    ensures { λ r. ⌜ (r ≡ true → Near (now (values .entry)) (length (now (values .entry)))) ⌝ }
+{
+    let mut near = true;
+    let mut k: usize = 0;
+    while k < values.len() {
+        if QUARTER <= magnitude(values[k]) {
+            near = false;
+        }
+        k += 1;
+    }
+    near
+}
+
 fn check_width(values: &[i64], present: &[u8]) -> Width
     requires { ⌜ length (now present) ≡ length (now values) ⌝ }
     ensures { λ r. ⌜ widthOf r ≡ wideAt 0 (differences (pos 0) (slotList (now (values .entry)) (now (present .entry)))) ⌝ }
 {
+    if are_near(values) {
+        return Width::Narrow;
+    }
     let mut last = ORIGIN;
     let mut k: usize = 0;
     while k < values.len() {

@@ -1,4 +1,4 @@
--- `delta_encoder::check_width` meets its contract: what the readings from k on owe is what all owe. Assumes nothing.
+-- `delta_encoder::check_width` meets its contract: near values owe nothing; else what the readings from k on owe is what all owe. Assumes nothing.
 use Prim.Native.Nat.{ℕ, _+_, _-_, _≤_}
 use mathlib.Core.Path.{_≡_, refl, sym, _∙_, ap}
 use mathlib.Core.Logic.{⊎-elim}
@@ -12,7 +12,7 @@ use mir.Syntax.{w64}
 use mir.Val.{toZ}
 use Rattle.encoding.specs.Given.{slotList}
 use Rattle.delta_encoder.specs.Differences.{differences, wideAt}
-use Rattle.delta_encoder.proofs.Differing.{wide-none, wide-some, wide-stop, wide-end}
+use Rattle.delta_encoder.proofs.Differing.{wide-none, wide-some, wide-stop, wide-end, near-narrow}
 use Rattle.delta_encoder.proofs.Taking.{read-back}
 use Rattle.delta_encoder.proofs.check_width.Statement.{statement}
 use Rattle.delta_encoder.proofs.check_width.Tie as tie
@@ -25,11 +25,17 @@ Inv-loop values present last₀ k₀ last k =
 abbrev μ-loop : tie.MeasureT-loop
 μ-loop values present last₀ k₀ last k = length values - k
 
+are-near-requires : tie.Need-are-near-requires Inv-loop μ-loop
+are-near-requires c κs = search needs
+
+returns : tie.Need-returns Inv-loop μ-loop
+returns c = sym (near-narrow _ _ (c .before .are-near .ensures (c .if1 .taken)))
+
 loop-holds : tie.Need-loop-holds Inv-loop μ-loop
 loop-holds c = (omega arith, refl)
 
-shared-slice-read-if1 : tie.Need-shared-slice-read-if1 Inv-loop μ-loop
-shared-slice-read-if1 c = omega arith
+shared-slice-read-if2 : tie.Need-shared-slice-read-if2 Inv-loop μ-loop
+shared-slice-read-if2 c = omega arith
 
 mul-is-held : tie.Need-mul-is-held Inv-loop μ-loop
 mul-is-held c = search needs
@@ -40,12 +46,12 @@ shared-slice-copy-out-is-held c = search needs
 is-held-requires : tie.Need-is-held-requires Inv-loop μ-loop
 is-held-requires c κs = search needs
 
-returns : tie.Need-returns Inv-loop μ-loop
-returns c =
-    let a = c .before .before .before .before .before .before .before .before in
+returns-2 : tie.Need-returns-2 Inv-loop μ-loop
+returns-2 c =
+    let a = c .before .before .before .before .before .before .before .before .before .before in
     let e = rw (read-back (c .before .before .is-held-arg .given)) at (c .before .is-held .ensures) in
     let l = c .before .before .before .before .before .loop-test .taken in
-    sym (c .before .before .before .before .before .before .loop .inv .1 ∙ wide-stop _ _ (a .pre) _ _ l (c .before .before .before .if1 .taken) (sym e ∙ not-true _ (c .if2 .taken)))
+    sym (c .before .before .before .before .before .before .loop .inv .1 ∙ wide-stop _ _ (a .pre) _ _ l (c .before .before .before .if2 .taken) (sym e ∙ not-true _ (c .if3 .taken)))
 
 mul-last : tie.Need-mul-last Inv-loop μ-loop
 mul-last c = search needs
@@ -61,7 +67,7 @@ loop-less c = omega arith
 
 loop-again : tie.Need-loop-again Inv-loop μ-loop
 loop-again c =
-    let a = c .before .before .before .before .before in
+    let a = c .before .before .before .before .before .before .before in
     let v = a .args .values .now in
     let p = a .args .present .now in
     let k = c .before .before .before .loop .k in
@@ -76,11 +82,11 @@ loop-again c =
           let e = rw f at (w .2 .ensures) in
           wide-some v p (a .pre) (toZ w64 last) k l (w .0 .taken) (sym e ∙ not-false _ (w .3 .left)) ∙ ap next (sym (ap (toZ w64) (w .5) ∙ f)))
           (λ w. wide-none v p (a .pre) (toZ w64 last) k l (w .0 .left) ∙ ap (λ (n : ℕ). next (toZ w64 n)) (sym (w .1)))
-          (c .if1 .came),
+          (c .if2 .came),
     )
 
-returns-2 : tie.Need-returns-2 Inv-loop μ-loop
-returns-2 c = sym (c .before .loop .inv .1 ∙ wide-end _ _ (c .before .before .before .pre) _ _ (c .loop-test .left))
+returns-3 : tie.Need-returns-3 Inv-loop μ-loop
+returns-3 c = sym (c .before .loop .inv .1 ∙ wide-end _ _ (c .before .before .before .before .before .pre) _ _ (c .loop-test .left))
 
 pub check-width-spec : {M : Type 1} → statement M
 check-width-spec =
@@ -88,15 +94,17 @@ check-width-spec =
     (tie.spec
     Inv-loop
     μ-loop
+    are-near-requires
+    returns
     loop-holds
-    shared-slice-read-if1
+    shared-slice-read-if2
     mul-is-held
     shared-slice-copy-out-is-held
     is-held-requires
-    returns
+    returns-2
     mul-last
     shared-slice-copy-out-last
     add-k
     loop-less
     loop-again
-    returns-2)
+    returns-3)
