@@ -1,6 +1,7 @@
 // The check of a given list, looking ahead over its presence bytes, and the counts of its runs: the same for every element.
 ghost use mathlib.Core.Path.{_≡_};
-ghost use Prim.Native.Nat.{_+_};
+ghost use mathlib.Core.Option.{none};
+ghost use Prim.Native.Nat.{_+_, _≤_};
 ghost use lib.IntN.{pos};
 ghost use lib.ListN.{drop};
 ghost use Rattle.encoding.specs.Given.{badFlag, listJudged};
@@ -16,9 +17,28 @@ enum Flags {
     Bad(usize),
 }
 
+// The largest presence byte, 0 where there is none: no early way out, so that many bytes are looked at at once.
+fn largest(present: &[u8]) -> u8
+    ensures { λ r. ⌜ (r ≤ 1 → badFlag 0 (now (present .entry)) ≡ none) ⌝ }
+{
+    let mut most: u8 = 0;
+    let mut j: usize = 0;
+    while j < present.len() {
+        let b = present[j];
+        if most < b {
+            most = b;
+        }
+        j += 1;
+    }
+    most
+}
+
 fn check_flags(present: &[u8]) -> Flags
     ensures { λ r. ⌜ flagsOf r ≡ badFlag 0 (now (present .entry)) ⌝ }
 {
+    if largest(present) <= 1 {
+        return Flags::Good;
+    }
     let mut k: usize = 0;
     while k < present.len() {
         if present[k] > 1 {
