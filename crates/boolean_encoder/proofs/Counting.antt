@@ -48,6 +48,10 @@ module _ (flag : ℕ) where
       go true h r l e = r (omega arith) e
       go false h r l e = eqb-false b flag h e
 
+  -- the end of the equal bytes, from an index among them
+  abbrev pub endFrom : List ℕ → ℕ → ℕ
+  endFrom xs k = k + alike flag (drop k xs)
+
   module _ (xs : List ℕ) (k : ℕ) where
     pub alike-more : k < length xs → getD xs k 0 ≡ flag → k + alike flag (drop k xs) ≡ k + 1 + alike flag (drop (k + 1) xs)
     unfolding alike
@@ -167,6 +171,60 @@ module _ (xs : List ℕ) (i flag k : ℕ) (h : Flags xs) (s : Stood xs i flag) (
 pub bytes-end : (xs : List ℕ) (i flag : ℕ) → length xs ≤ i → bytesFrom xs i flag ≡ []
 unfolding bytesFrom counts countsBytes
 bytes-end xs i flag l = ap (λ (ys : List ℕ). countsBytes (counts flag ys)) (drop-of-length-le xs l)
+
+-- ---- the run that a loop over bytes is in at k: it begins at i, and the bytes of the counts before it are n
+pub record Running (xs : List ℕ) (n i flag k : ℕ) : Type 0 where
+  pub stood : Stood xs i flag
+  pub some : i < length xs
+  pub behind : i ≤ k
+  pub within : k ≤ length xs
+  pub same : i + alike flag (drop i xs) ≡ k + alike flag (drop k xs)
+  pub total : n + length (bytesFrom xs i flag) ≡ length (boolBytes xs)
+
+pub run-start : (xs : List ℕ) → 0 < length xs → Running xs 0 0 0 0
+run-start xs l =
+    record {
+      stood = stood-start xs;
+      some = l;
+      behind = omega arith;
+      within = omega arith;
+      same = refl;
+      total = omega (arith, ap length (bytes-start xs));
+    }
+
+module _ (xs : List ℕ) (n i flag k : ℕ) (r : Running xs n i flag k) where
+  pub run-skip : (j : ℕ) → k + alike flag (drop k xs) ≡ j + alike flag (drop j xs) → k ≤ j → j ≤ length xs → Running xs n i flag j
+  run-skip j e l m =
+      record { stood = r .stood; some = r .some; behind = omega (arith, r .behind); within = m; same = r .same ∙ e; total = r .total }
+
+  pub run-on : (m : ℕ) → m ≡ 0 → k < length xs → getD xs k 0 ≡ flag → Running xs (n + m) i (getD xs k 0) (k + 1)
+  run-on m z l e =
+      let s = run-skip (k + 1) (alike-more flag xs k l e) (omega arith) (omega arith) in
+      let t : n ≡ n + m = omega arith in
+      rw e (rw t at s)
+
+  module _ (h : Flags xs) (m : ℕ) (e : m ≡ length (u64Bytes (k - i))) where
+    pub run-turn : k < length xs → (getD xs k 0 ≡ flag → ⊥) → Running xs (n + m) k (getD xs k 0) (k + 1)
+    run-turn l d =
+        let c = cut-at xs i flag k h (r .stood) (r .some) (sym (r .same ∙ alike-stop flag xs k l d)) in
+        let b : 1 - flag ≡ getD xs k 0 = omega (arith, h k l, r .stood .bit) in
+        rw b at (turned c l (sym b))
+      where
+        turned : CutAt xs i flag k → k < length xs → getD xs k 0 ≡ 1 - flag → Running xs (n + m) k (1 - flag) (k + 1)
+        turned c l b =
+            record {
+              stood = c .stood;
+              some = l;
+              behind = omega arith;
+              within = omega arith;
+              same = alike-more (1 - flag) xs k l b;
+              total = omega (arith, r .total, c .size);
+            }
+
+    pub run-end : length xs ≤ k → n + m ≡ length (boolBytes xs)
+    run-end l =
+        let c = cut-at xs i flag k h (r .stood) (r .some) (sym (r .same ∙ alike-over flag xs k l)) in
+        omega (arith, r .total, c .size, ap length (bytes-end xs k (1 - flag) l))
 
 -- a number takes few bytes
 pub ten-most : (n v : ℕ) → n ≡ length (u64Bytes v) → n ≤ 10

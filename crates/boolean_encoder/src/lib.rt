@@ -1,6 +1,7 @@
-// Writing a list of booleans as a column, in both forms (the encoders of the crate's columnar/encoding/boolean.rs): its counts found by
-// looking ahead over the lent list, once for their size and once to write them.
+// Writing a list of booleans as a column, in both forms (the encoders of the crate's columnar/encoding/boolean.rs): the lent
+// list is gone over byte by byte for the size of its counts, and looking ahead to write them.
 ghost use mathlib.Core.Path.{_≡_};
+ghost use mathlib.Core.Bool.{true, false};
 ghost use mathlib.Core.List.{[]};
 ghost use Prim.Native.Nat.{_+_, _≤_};
 ghost use lib.ListN.{length, drop};
@@ -15,12 +16,44 @@ ghost use Rattle.boolean_encoder.specs.Writer.{boolBytes, maybeBytes};
 use encoding::Answer;
 use leb128_writer::Written;
 
-// The index behind the bytes from i on that equal `flag`.
-fn turn_end(values: &[u8], i: usize, flag: u8) -> usize
+// Do the 32 bytes from k on all equal `flag`? No early way out, so that they are looked at at once.
+fn alike_block(values: &[u8], k: usize, flag: u8) -> bool
+    requires { ⌜ k + 32 ≤ length (now values) ⌝ }
+    ensures { λ r. ⌜ (r ≡ true → k + alike flag (drop k (now (values .entry))) ≡ k + 32 + alike flag (drop (k + 32) (now (values .entry)))) ⌝ }
+{
+    let mut other: u8 = 0;
+    let mut j: usize = 0;
+    while j < 32 {
+        if values[k + j] != flag {
+            other = 1;
+        }
+        j += 1;
+    }
+    other == 0
+}
+
+// Past as many blocks of 32 bytes that equal `flag` as stand from i on.
+fn skip_blocks(values: &[u8], i: usize, flag: u8) -> usize
+    requires { ⌜ i ≤ length (now values) ⌝ }
+    ensures { λ r. ⌜ (i + alike flag (drop i (now (values .entry))) ≡ r + alike flag (drop r (now (values .entry))))
+        × (i ≤ r) × (r ≤ length (now (values .entry))) ⌝ }
+{
+    let mut k = i;
+    while 32 <= values.len() - k {
+        if !alike_block(values, k, flag) {
+            return k;
+        }
+        k += 32;
+    }
+    k
+}
+
+// The index behind the bytes from i on that equal `flag`: where they are many, and where they are perhaps few.
+fn far_end(values: &[u8], i: usize, flag: u8) -> usize
     requires { ⌜ i ≤ length (now values) ⌝ }
     ensures { λ r. ⌜ r ≡ i + alike flag (drop i (now (values .entry))) ⌝ }
 {
-    let mut k = i;
+    let mut k = skip_blocks(values, i, flag);
     while k < values.len() {
         if values[k] != flag {
             return k;
@@ -30,21 +63,72 @@ fn turn_end(values: &[u8], i: usize, flag: u8) -> usize
     k
 }
 
-// How many bytes a list within the limit takes.
+fn turn_end(values: &[u8], i: usize, flag: u8) -> usize
+    requires { ⌜ i ≤ length (now values) ⌝ }
+    ensures { λ r. ⌜ r ≡ i + alike flag (drop i (now (values .entry))) ⌝ }
+{
+    let stop = if values.len() - i < 16 {
+        values.len()
+    } else {
+        i + 16
+    };
+    let mut k = i;
+    while k < stop {
+        if values[k] != flag {
+            return k;
+        }
+        k += 1;
+    }
+    far_end(values, k, flag)
+}
+
+// How many bytes the count of a run takes where it ends; none where it goes on.
+fn ended_len(run: usize, ends: bool) -> usize
+    ensures { λ r. ⌜ (ends ≡ true → r ≡ length (u64Bytes run)) × (ends ≡ false → r ≡ 0) × (r ≤ 10) ⌝ }
+{
+    let mut size: usize = 0;
+    if ends {
+        size = 1;
+    }
+    if run >= 128 {
+        if ends {
+            size = leb128_writer::len_u64(run as u64);
+        }
+    }
+    size
+}
+
+// How many bytes a list within the limit takes. Whether a run ends at k decides no branch, since that cannot be foretold; whole blocks of one
+// run are skipped. The run at k begins at i.
 fn counts_len(values: &[u8]) -> usize
     requires { ⌜ Flags (now values) × (length (now values) ≤ limit) ⌝ }
     ensures { λ r. ⌜ r ≡ length (boolBytes (now (values .entry))) ⌝ }
 {
+    if values.len() == 0 {
+        return 0;
+    }
     let mut n: usize = 0;
     let mut i: usize = 0;
     let mut flag: u8 = 0;
-    while i < values.len() {
-        let k = turn_end(values, i, flag);
-        n += leb128_writer::len_u64((k - i) as u64);
-        i = k;
-        flag = 1 - flag;
+    let mut k: usize = 0;
+    while k < values.len() {
+        k = skip_blocks(values, k, flag);
+        let stop = if values.len() - k < 32 {
+            values.len()
+        } else {
+            k + 32
+        };
+        while k < stop {
+            let b = values[k];
+            n += ended_len(k - i, b != flag);
+            if b != flag {
+                i = k;
+            }
+            flag = b;
+            k += 1;
+        }
     }
-    n
+    n + leb128_writer::len_u64((k - i) as u64)
 }
 
 // A number where there is room for it; the position behind it.
