@@ -4,13 +4,14 @@ use mathlib.Core.Path.{_≡_, refl, sym, ap, _∙_}
 use mathlib.Core.List.{List, [], _∷_, _++_, append-assoc, append-nil}
 use mathlib.Core.Bool.{Bool, true, false, cond, not}
 use Prim.Native.Nat.{ℕ, zero, suc, _+_, _-_, _≤_, _<_, zero-le}
+use native.Mathlib.Decide.{decLt}
 use native.Mathlib.Numerals.{add-one}
 use native.Mathlib.Omega.{arith}
 use lib.ListN.{length, getD, set, take, drop, replicate, length-set, length-take, take-append-drop, length-append, length-replicate}
 use lib.ListN.{drop-of-length-le, List·getD-append}
 use lib.Seq.{drop-cons, drop-set-lt, drop-drop, take-suc-set, length-take-le, getD-take, take-at}
 use lib.Dec.{ltb}
-use borrow.Author.Tests.{ltb-true, ltb-false, lt-ltb, le-ltb}
+use borrow.Author.Tests.{ltb-false, lt-ltb, le-ltb}
 use Rattle.leb128.specs.Got.{Got, got, bad}
 use Rattle.leb128.specs.Read.{u64At, u32At}
 use Rattle.leb128.proofs.Refusals.{u64-fault, u32-fault}
@@ -19,9 +20,10 @@ use Rattle.column_specification.specs.Key.{key}
 use Rattle.column_specification.specs.Specification.{compressedOf}
 use Rattle.encoding.proofs.Lists.{cond-by}
 use Rattle.raw_column.specs.Table.{Tab, tab, faulty, withNumber, withRow, rowsAt, inOrder, plain, sum, judged, parse}
-use Rattle.raw_column.specs.Rows.{pad, startsFrom, opened, rowsOf, startsOf}
-use Rattle.raw_column.specs.declared.Rows.{Rows}
-use Rattle.raw_column.specs.declared.Starts.{Starts}
+use Rattle.raw_column.specs.Rows.{pad, startsFrom, opened, emptyTable, faultOf, Counted, Read}
+use Rattle.raw_column.specs.declared.Count.{Count}
+use Rattle.raw_column.specs.declared.Row.{Row}
+use Rattle.raw_column.specs.declared.Table.{Table}
 use Rattle.raw_column.specs.declared.Opened.{Opened}
 
 -- ---- by cases
@@ -70,7 +72,22 @@ take-pad : (n : ℕ) (xs : List ℕ) → length xs ≡ n → take n (pad xs) ≡
 unfolding pad
 take-pad n xs h = take-at xs _ n h
 
--- ---- read_rows
+-- ---- a row in front of others
+module _ (s : List ℕ) (p : ℕ) where
+  pub row-bad : {number place : ℕ} → u32At s p ≡ bad number place → (k : ℕ) → rowsAt (suc k) s p ≡ faulty number place
+  unfolding rowsAt
+  row-bad e k = rw e
+
+  module _ {spec q : ℕ} (e : u32At s p ≡ got spec q) where
+    pub row-bad-len : {number place : ℕ} → u64At s q ≡ bad number place → (k : ℕ) → rowsAt (suc k) s p ≡ faulty number place
+    unfolding rowsAt
+    row-bad-len f k = rw (e, f)
+
+    pub row-good : {len r : ℕ} → u64At s q ≡ got len r → (k : ℕ) → rowsAt (suc k) s p ≡ withRow spec len (rowsAt k s r)
+    unfolding rowsAt
+    row-good f k = rw (e, f)
+
+-- ---- rows that are read into two lists
 -- rows in front of others
 abbrev ahead : List ℕ → List ℕ → Tab → Tab
 ahead specs lens (tab a b next) = tab (specs ++ a) (lens ++ b) next
@@ -84,7 +101,7 @@ ahead-none : (t : Tab) → ahead [] [] t ≡ t
 ahead-none (tab a b next) = refl
 ahead-none (faulty number place) = refl
 
--- what holds at the head of its loop
+-- what holds at the head of a loop
 pub record Going (s : List ℕ) (at n : ℕ) (specs lens : List ℕ) (i p : ℕ) : Type 0 where
   pub within : i ≤ n
   pub specs-free : Unused specs i
@@ -102,52 +119,109 @@ going-start s at n =
     }
 
 module _ {s : List ℕ} {at n : ℕ} {specs lens : List ℕ} {i p : ℕ} (g : Going s at n specs lens i p) (t : i < n) where
-  pub going-bad : {r place : ℕ} → u32At s p ≡ bad r place → faulty r place ≡ rowsAt n s at
-  unfolding rowsAt
-  going-bad {r} {place} e =
-      let w : rowsAt (n - i) s p ≡ faulty r place = rw (less n i t, e) in
+  pub going-bad : {number place : ℕ} → ((k : ℕ) → rowsAt (suc k) s p ≡ faulty number place) → faulty number place ≡ rowsAt n s at
+  going-bad {number} {place} e =
+      let w : rowsAt (n - i) s p ≡ faulty number place = rw (less n i t) (e (n - (i + 1))) in
       ap (ahead (take i specs) (take i lens)) (sym w) ∙ g .rest
 
-  module _ {spec q : ℕ} (e : u32At s p ≡ got spec q) where
-    pub going-bad-len : {r place : ℕ} → u64At s q ≡ bad r place → faulty r place ≡ rowsAt n s at
-    unfolding rowsAt
-    going-bad-len {r} {place} f =
-        let w : rowsAt (n - i) s p ≡ faulty r place = rw (less n i t, e, f) in
-        ap (ahead (take i specs) (take i lens)) (sym w) ∙ g .rest
+  pub going-turn : (spec len : ℕ) {r : ℕ} → n ≤ 64 → ((k : ℕ) → rowsAt (suc k) s p ≡ withRow spec len (rowsAt k s r))
+      → Going s at n (set specs i spec) (set lens i len) (i + 1) r
+  going-turn spec len {r} h e =
+      let b : i < 64 = omega arith in
+      let w : rowsAt (n - i) s p ≡ withRow spec len (rowsAt (n - (i + 1)) s r) = rw (less n i t) (e (n - (i + 1))) in
+      record {
+        within = omega arith;
+        specs-free = one-used specs i spec b (g .specs-free);
+        lens-free = one-used lens i len b (g .lens-free);
+        rest =
+            rw (taken-one specs i spec b (g .specs-free), taken-one lens i len b (g .lens-free))
+            (sym (ahead-row (take i specs) (take i lens) spec len (rowsAt (n - (i + 1)) s r))
+            ∙ ap (ahead (take i specs) (take i lens)) (sym w)
+            ∙ g .rest);
+      }
 
-    pub going-turn : {len r : ℕ} → n ≤ 64 → u64At s q ≡ got len r → Going s at n (set specs i spec) (set lens i len) (i + 1) r
-    unfolding rowsAt
-    going-turn {len} {r} h f =
-        let b : i < 64 = omega arith in
-        let w : rowsAt (n - i) s p ≡ withRow spec len (rowsAt (n - (i + 1)) s r) = rw (less n i t, e, f) in
-        record {
-          within = omega arith;
-          specs-free = one-used specs i spec b (g .specs-free);
-          lens-free = one-used lens i len b (g .lens-free);
-          rest =
-              ap (λ (a : List ℕ). ahead a (take (i + 1) (set lens i len)) (rowsAt (n - (i + 1)) s r)) (taken-one specs i spec b (g .specs-free))
-              ∙ ap (λ (a : List ℕ). ahead (take i specs ++ (spec ∷ [])) a (rowsAt (n - (i + 1)) s r)) (taken-one lens i len b (g .lens-free))
-              ∙ sym (ahead-row (take i specs) (take i lens) spec len (rowsAt (n - (i + 1)) s r))
-              ∙ ap (ahead (take i specs) (take i lens)) (sym w)
-              ∙ g .rest;
-        }
+-- ---- lengths that are summed
+sum-last : (xs : List ℕ) (x : ℕ) → sum (xs ++ (x ∷ [])) ≡ sum xs + x
+unfolding sum
+sum-last [] x = omega arith
+sum-last (y ∷ xs) x = let r = sum-last xs x in omega (arith, r)
 
--- the answer after the last turn
-module _ {s : List ℕ} {at n : ℕ} {specs lens : List ℕ} {i p : ℕ} (g : Going s at n specs lens i p) (h : n ≤ 64) (m : n ≤ i) where
-  going-end : tab (take n specs) (take n lens) p ≡ rowsAt n s at
-  unfolding rowsAt
-  going-end =
-      let e : i ≡ n = omega (arith, g .within) in
-      let z : n - i ≡ 0 = omega arith in
-      rw (← g .rest, z, e) (simp append-nil)
+starts-last : (k : ℕ) (xs : List ℕ) (x : ℕ) → startsFrom k (xs ++ (x ∷ [])) ≡ startsFrom k xs ++ ((k + sum xs) ∷ [])
+unfolding sum startsFrom
+starts-last k [] x = let e : k ≡ k + 0 = omega arith in ap (λ (a : ℕ). a ∷ []) e
+starts-last k (y ∷ xs) x =
+    let e : k + y + sum xs ≡ k + (y + sum xs) = omega arith in
+    ap (λ (a : List ℕ). k ∷ a) (starts-last (k + y) xs x ∙ ap (λ (a : ℕ). startsFrom (k + y) xs ++ (a ∷ [])) e)
 
-  pub going-out : _≡_ {A = Rows} (record { specs = specs; lens = lens; number = 0; place = 0; next = p }) (rowsOf (rowsAt n s at))
-  going-out =
-      let e : i ≡ n = omega (arith, g .within) in
-      ap (λ (xs : List ℕ). record { specs = xs; lens = lens; number = 0; place = 0; next = p }) (used-pad specs n h (rw e at (g .specs-free)))
-      ∙ ap (λ (xs : List ℕ). record { specs = pad (take n specs); lens = xs; number = 0; place = 0; next = p })
-      (used-pad lens n h (rw e at (g .lens-free)))
-      ∙ ap rowsOf going-end
+-- a sum of lengths up to a size, and the starts of the columns while the sum is below it
+pub record Summing (size : ℕ) (lens starts : List ℕ) (total : ℕ) : Type 0 where
+  pub fits : total ≤ size
+  pub reached : total ≤ sum lens
+  pub exact : total < size → (total ≡ sum lens) × (starts ≡ startsFrom 0 lens)
+
+summing-start : (size : ℕ) → Summing size [] [] 0
+unfolding sum startsFrom
+summing-start size = record { fits = zero-le; reached = zero-le; exact = λ h. (refl, refl) }
+
+summing-turn : {size : ℕ} {lens starts : List ℕ} {total : ℕ} (g : Summing size lens starts total) (len more : ℕ)
+    → (more ≤ size) × (more ≤ total + len) × (more < size → more ≡ total + len) → Summing size (lens ++ (len ∷ [])) (starts ++ (total ∷ [])) more
+summing-turn {size} {lens} {starts} {total} g len more a =
+    record {
+      fits = a .0;
+      reached = omega (arith, sum-last lens len, g .reached, a .1);
+      exact = λ h.
+          let w = g .exact (omega (arith, a .2 h)) in (
+            omega (arith, sum-last lens len, w .0, a .2 h),
+            rw (w .1, w .0, starts-last 0 lens len) (ap (λ (k : ℕ). startsFrom 0 lens ++ (k ∷ [])) (omega arith)),
+          );
+    }
+
+-- ---- read_table: what holds at the head of its loop
+pub record Filling (s : List ℕ) (at n : ℕ) (t : Table) (p total i : ℕ) : Type 0 where
+  pub counted : u64At s 0 ≡ got n at
+  pub few : n ≤ 64
+  pub many : t .rows ≡ n
+  pub begun : 0 < p
+  pub inside : p ≤ length s
+  pub going : Going s at n (t .specs) (t .lens) i p
+  pub starts-free : Unused (t .starts) i
+  pub summing : Summing (length s) (take i (t .lens)) (take i (t .starts)) total
+
+pub filling-start : (s : List ℕ) {at n : ℕ} → (u64At s 0 ≡ got n at) × (n ≤ 64) → {t : Table} → t ≡ emptyTable n → Filling s at n t at 0 0
+filling-start s {at} {n} g o =
+    let w = u64-next s 0 n at (g .0) in
+    rw o
+    (record {
+      counted = g .0;
+      few = g .1;
+      many = refl;
+      begun = w .0;
+      inside = w .1;
+      going = going-start s at n;
+      starts-free = none-used;
+      summing = summing-start (length s);
+    })
+
+module _ {s : List ℕ} {at n : ℕ} {t : Table} {p total i : ℕ} (g : Filling s at n t p total i) (h : i < n) {r : Row} (w : Read s p r) where
+  pub filling-turn : {more : ℕ} → r .number ≡ 0 → (more ≤ length s) × (more ≤ total + r .len) × (more < length s → more ≡ total + r .len)
+      → Filling s at n
+      (record { specs = set (t .specs) i (r .spec); starts = set (t .starts) i total; lens = set (t .lens) i (r .len); rows = t .rows })
+      (r .next) more (i + 1)
+  filling-turn {more} z a =
+      let v : i < 64 = omega (arith, g .few) in
+      let q = w .taken z in
+      record {
+        counted = g .counted;
+        few = g .few;
+        many = g .many;
+        begun = q .0;
+        inside = q .1;
+        going = going-turn (g .going) h (r .spec) (r .len) (g .few) (q .2);
+        starts-free = one-used (t .starts) i total v (g .starts-free);
+        summing =
+            rw (taken-one (t .lens) i (r .len) v (g .going .lens-free), taken-one (t .starts) i total v (g .starts-free))
+            (summing-turn (g .summing) (r .len) more a);
+      }
 
 -- ---- tests over the first n: one element more, and the end
 pub next-of : (xs : List ℕ) (n i : ℕ) → n ≤ length xs → i < n → drop i (take n xs) ≡ getD xs i 0 ∷ drop (i + 1) (take n xs)
@@ -175,14 +249,6 @@ module _ (xs : List ℕ) (n i : ℕ) (h : n ≤ length xs) (t : i < n) where
   unfolding plain
   plain-not e = rw (next-of xs n i h t, e)
 
-  sum-on : sum (drop i (take n xs)) ≡ getD xs i 0 + sum (drop (i + 1) (take n xs))
-  unfolding sum
-  sum-on = rw (next-of xs n i h t)
-
-  starts-on : (k : ℕ) → startsFrom k (drop i (take n xs)) ≡ k ∷ startsFrom (k + getD xs i 0) (drop (i + 1) (take n xs))
-  unfolding startsFrom
-  starts-on k = rw (next-of xs n i h t)
-
 pub order-end : (xs : List ℕ) (n i last : ℕ) → n ≤ i → inOrder last (drop i (take n xs)) ≡ true
 unfolding inOrder
 order-end xs n i last h = rw (none-left xs n i h)
@@ -191,118 +257,71 @@ pub plain-end : (xs : List ℕ) (n i : ℕ) → n ≤ i → plain (drop i (take 
 unfolding plain
 plain-end xs n i h = rw (none-left xs n i h)
 
--- ---- starts_of: what holds at the head of its loop
-pub record Summing (lens : List ℕ) (n room : ℕ) (starts : List ℕ) (total i : ℕ) : Type 0 where
-  pub within : i ≤ n
-  pub free : Unused starts i
-  pub fits : total ≤ room
-  pub rest : total + sum (drop i (take n lens)) ≡ sum (take n lens)
-  pub starts-rest : take i starts ++ startsFrom total (drop i (take n lens)) ≡ startsFrom 0 (take n lens)
-
-pub summing-start : (lens : List ℕ) (n room : ℕ) → Summing lens n room (replicate 64 0) 0 0
-summing-start lens n room = record { within = zero-le; free = none-used; fits = zero-le; rest = omega arith; starts-rest = refl }
-
-module _ {lens : List ℕ} {n room : ℕ} {starts : List ℕ} {total i : ℕ} (g : Summing lens n room starts total i) where
-  pub summing-turn : n ≤ 64 → n ≤ length lens → i < n → getD lens i 0 ≤ room - total
-      → Summing lens n room (set starts i total) (total + getD lens i 0) (i + 1)
-  summing-turn h m t r =
-      let b : i < 64 = omega arith in
-      record {
-        within = omega arith;
-        free = one-used starts i total b (g .free);
-        fits = omega (arith, g .fits);
-        rest = omega (arith, g .rest, sum-on lens n i m t);
-        starts-rest =
-            ap (λ (a : List ℕ). a ++ startsFrom (total + getD lens i 0) (drop (i + 1) (take n lens))) (taken-one starts i total b (g .free))
-            ∙ append-assoc (take i starts) (total ∷ []) (startsFrom (total + getD lens i 0) (drop (i + 1) (take n lens)))
-            ∙ ap (λ (a : List ℕ). take i starts ++ a) (sym (starts-on lens n i m t total))
-            ∙ g .starts-rest;
-      }
-
-  pub summing-over : n ≤ length lens → i < n → room - total < getD lens i 0
-      → _≡_ {A = Starts} (record { starts = replicate 64 0; total = 0; over = true }) (startsOf room (take n lens))
-  summing-over m t r =
-      let h : room < sum (take n lens) = omega (arith, g .fits, g .rest, sum-on lens n i m t) in
-      rw (lt-ltb room (sum (take n lens)) h)
-
-  summing-end : n ≤ 64 → n ≤ i → (sum (take n lens) ≡ total) × (starts ≡ pad (startsFrom 0 (take n lens)))
-  unfolding sum startsFrom
-  summing-end h m =
-      let e : i ≡ n = omega (arith, g .within) in
-      let r : total + 0 ≡ sum (take n lens) = rw (none-left lens n i m) at (g .rest) in
-      let s : take n starts ++ [] ≡ startsFrom 0 (take n lens) = rw (e, none-left lens n n (omega arith)) at (g .starts-rest) in
-      (omega arith, used-pad starts n h (rw e at (g .free)) ∙ ap pad (sym (append-nil (take n starts)) ∙ s))
-
-  pub summing-out : n ≤ 64 → n ≤ i → _≡_ {A = Starts} (record { starts = starts; total = total; over = false }) (startsOf room (take n lens))
-  summing-out h m =
-      let e = summing-end h m in
-      let f : sum (take n lens) ≤ room = omega (arith, e .0, g .fits) in
-      rw (le-ltb room (sum (take n lens)) f, e .0, ← e .1)
-
--- the sums' answer: over, or the sum and the starts
-abbrev startsBy : Bool → List ℕ → Starts
-startsBy b lens =
-    cond b (record { starts = replicate 64 0; total = 0; over = true })
-    (record { starts = pad (startsFrom 0 lens); total = sum lens; over = false })
-
-over-by : (b : Bool) (lens : List ℕ) (r : Starts) → r ≡ startsBy b lens → r .over ≡ b
-over-by true lens r e = ap (λ (x : Starts). x .over) e
-over-by false lens r e = ap (λ (x : Starts). x .over) e
-
-summed-by : (b : Bool) (lens : List ℕ) (r : Starts) → r ≡ startsBy b lens → b ≡ false → (r .total ≡ sum lens) × (r .starts ≡ pad (startsFrom 0 lens))
-summed-by true lens r e h = (cc, cc)
-summed-by false lens r e h = (ap (λ (x : Starts). x .total) e, ap (λ (x : Starts). x .starts) e)
-
-pub is-over : (room : ℕ) (lens : List ℕ) (r : Starts) → r ≡ startsOf room lens → r .over ≡ true → room < sum lens
-is-over room lens r e h = ltb-true room (sum lens) (sym (over-by (ltb room (sum lens)) lens r e) ∙ h)
-
-pub record Summed (room : ℕ) (lens : List ℕ) (r : Starts) : Type 0 where
-  pub total-is : r .total ≡ sum lens
-  pub starts-are : r .starts ≡ pad (startsFrom 0 lens)
-  pub fits : sum lens ≤ room
-
-pub is-summed : (room : ℕ) (lens : List ℕ) (r : Starts) → r ≡ startsOf room lens → r .over ≡ false → Summed room lens r
-is-summed room lens r e h =
-    let b : ltb room (sum lens) ≡ false = sym (over-by (ltb room (sum lens)) lens r e) ∙ h in
-    let w = summed-by (ltb room (sum lens)) lens r e b in
-    record { total-is = w .0; starts-are = w .1; fits = ltb-false room (sum lens) b }
-
--- ---- judge: 12, 13, 14 and 15, and an accepted table
-module _ (size next : ℕ) (specs lens : List ℕ) where
-  pub judged-12 : inOrder 0 specs ≡ false → faulty 12 0 ≡ judged size (tab specs lens next)
-  judged-12 e = rw e
+-- ---- fault_of
+module _ (specs : List ℕ) (total room : ℕ) where
+  pub fault-12 : inOrder 0 specs ≡ false → 12 ≡ faultOf specs total room
+  fault-12 e = rw e
 
   module _ (e : inOrder 0 specs ≡ true) where
-    pub judged-13 : plain specs ≡ false → faulty 13 0 ≡ judged size (tab specs lens next)
-    judged-13 f = rw (e, f)
+    pub fault-13 : plain specs ≡ false → 13 ≡ faultOf specs total room
+    fault-13 f = rw (e, f)
 
     module _ (f : plain specs ≡ true) where
-      pub judged-14 : size - next < sum lens → faulty 14 0 ≡ judged size (tab specs lens next)
-      judged-14 h = rw (e, f, lt-ltb (size - next) (sum lens) h)
+      pub fault-14 : room < total → 14 ≡ faultOf specs total room
+      fault-14 h = rw (e, f, lt-ltb room total h)
 
-      pub judged-15 : sum lens < size - next → faulty 15 0 ≡ judged size (tab specs lens next)
-      judged-15 h =
-          let g : sum lens ≤ size - next = omega arith in
-          rw (e, f, le-ltb (size - next) (sum lens) g, lt-ltb (sum lens) (size - next) h)
+      pub fault-15 : total < room → 15 ≡ faultOf specs total room
+      fault-15 h = let g : total ≤ room = omega arith in rw (e, f, le-ltb room total g, lt-ltb total room h)
 
-      judged-tab : sum lens ≡ size - next → tab specs lens next ≡ judged size (tab specs lens next)
-      judged-tab h =
-          let g : sum lens ≤ size - next = omega arith in
-          let k : size - next ≤ sum lens = omega arith in
-          rw (e, f, le-ltb (size - next) (sum lens) g, le-ltb (sum lens) (size - next) k)
+      pub fault-none : total ≤ room → room ≤ total → 0 ≡ faultOf specs total room
+      fault-none g h = rw (e, f, le-ltb room total g, le-ltb total room h)
 
-pub judged-out : (size n : ℕ) (r : Rows) (starts : List ℕ) → n ≤ length (r .specs) → r .specs ≡ pad (take n (r .specs)) → r .lens ≡ pad (take n (r .lens))
-    → starts ≡ pad (startsFrom 0 (take n (r .lens))) → inOrder 0 (take n (r .specs)) ≡ true → plain (take n (r .specs)) ≡ true
-    → sum (take n (r .lens)) ≡ size - r .next
-    → _≡_ {A = Opened} (record { table = record { specs = r .specs; starts = starts; lens = r .lens; rows = n }; number = 0; place = 0; start = r .next })
-    (opened (judged size (tab (take n (r .specs)) (take n (r .lens)) (r .next))))
-judged-out size n r starts h a b s e f k =
-    let l : length (take n (r .specs)) ≡ n = length-take-le n (r .specs) h in
-    let t : tab (take n (r .specs)) (take n (r .lens)) (r .next) ≡ judged size (tab (take n (r .specs)) (take n (r .lens)) (r .next)) =
-    judged-tab size (r .next) (take n (r .specs)) (take n (r .lens)) e f k in
-    rw (← t, ← a, ← b, ← s, l)
+-- a fault is what is judged, and where there is none the table stands
+abbrev Judged : Tab → ℕ → Tab → Type 0
+Judged t f j = ((f ≡ 0 → ⊥) → faulty f 0 ≡ j) × (f ≡ 0 → t ≡ j)
 
--- ---- read_table: the rows that read_rows answers with
+judged-cases : (t : Tab) (a b c d : Bool)
+    → Judged t (cond a 12 (cond b 13 (cond c 14 (cond d 15 0)))) (cond a (faulty 12 0) (cond b (faulty 13 0) (cond c (faulty 14 0) (cond d (faulty 15 0) t))))
+judged-cases t true b c d = (λ h. refl, λ z. absurd (omega arith))
+judged-cases t false true c d = (λ h. refl, λ z. absurd (omega arith))
+judged-cases t false false true d = (λ h. refl, λ z. absurd (omega arith))
+judged-cases t false false false true = (λ h. refl, λ z. absurd (omega arith))
+judged-cases t false false false false = (λ h. absurd (h refl), λ z. refl)
+
+none-of : (a b c d : Bool) → _≡_ {A = ℕ} (cond a 12 (cond b 13 (cond c 14 (cond d 15 0)))) 0 → (c ≡ false) × (d ≡ false)
+none-of true b c d z = absurd (omega arith)
+none-of false true c d z = absurd (omega arith)
+none-of false false true d z = absurd (omega arith)
+none-of false false false true z = absurd (omega arith)
+none-of false false false false z = (refl, refl)
+
+no-fault : (specs : List ℕ) (total room : ℕ) → faultOf specs total room ≡ 0 → total ≡ room
+no-fault specs total room z =
+    let w = none-of (not (inOrder 0 specs)) (not (plain specs)) (ltb room total) (ltb total room) z in
+    omega (arith, ltb-false room total (w .0), ltb-false total room (w .1))
+
+-- a sum up to a size stands for the whole sum beside what is below the size
+module _ {size : ℕ} {lens starts : List ℕ} {total : ℕ} (g : Summing size lens starts total) (room : ℕ) (h : room < size) where
+  over-same : ltb room total ≡ ltb room (sum lens)
+  over-same = elim (decLt total size) [
+    | yes w ↦ ap (ltb room) (g .exact w .0)
+    | no w ↦ lt-ltb room total (omega arith) ∙ sym (lt-ltb room (sum lens) (omega (arith, g .reached)))
+  ]
+
+  under-same : ltb total room ≡ ltb (sum lens) room
+  under-same = elim (decLt total size) [
+    | yes w ↦ ap (λ (k : ℕ). ltb k room) (g .exact w .0)
+    | no w ↦ le-ltb total room (omega arith) ∙ sym (le-ltb (sum lens) room (omega (arith, g .reached)))
+  ]
+
+judged-same : {size next : ℕ} {specs lens starts : List ℕ} {total : ℕ} → Summing size lens starts total → 0 < next → next ≤ size
+    → Judged (tab specs lens next) (faultOf specs total (size - next)) (judged size (tab specs lens next))
+judged-same {size} {next} {specs} {lens} {starts} {total} g a b =
+    let h : size - next < size = omega arith in
+    rw (over-same g (size - next) h, under-same g (size - next) h)
+    (judged-cases (tab specs lens next) (not (inOrder 0 specs)) (not (plain specs)) (ltb (size - next) (sum lens)) (ltb (sum lens) (size - next)))
+
+-- ---- the rows that rowsAt gives
 abbrev RowsOk : ℕ → ℕ → Tab → Type 0
 RowsOk n size (tab specs lens next) = (length specs ≡ n) × (length lens ≡ n) × (next ≤ size)
 RowsOk n size (faulty number place) = 0 < number
@@ -321,53 +340,85 @@ rows-ok (suc n) s p h =
     (λ r place f. u64-fault s q r place f))
     (λ r place e. u32-fault s p r place e)
 
-bad-case : (t : Tab) (r : Rows) → r ≡ rowsOf t → (r .number ≡ 0 → ⊥) → faulty (r .number) (r .place) ≡ t
-bad-case (tab specs lens next) r e h = absurd (h (ap (λ (x : Rows). x .number) e))
-bad-case (faulty number place) r e h = ap (λ (x : Rows). faulty (x .number) (x .place)) e
+-- ---- count_of
+module _ (s : List ℕ) (r : Count) where
+  pub count-bad : {number place : ℕ} → u64At s 0 ≡ bad number place → r .number ≡ number → r .place ≡ place → Counted s r
+  unfolding parse
+  count-bad {number} {place} e a b =
+      record {
+        taken = λ z. absurd (omega (arith, u64-fault s 0 number place e));
+        refused = λ z. rw (e, a, b);
+      }
 
-pub record Good (n size : ℕ) (r : Rows) (t : Tab) : Type 0 where
-  pub next-in : r .next ≤ size
-  pub specs-pad : r .specs ≡ pad (take n (r .specs))
-  pub lens-pad : r .lens ≡ pad (take n (r .lens))
-  pub is : tab (take n (r .specs)) (take n (r .lens)) (r .next) ≡ t
+  pub count-11 : {n next : ℕ} → u64At s 0 ≡ got n next → 64 < n → r .number ≡ 11 → r .place ≡ 0 → Counted s r
+  unfolding parse
+  count-11 {n} e h a b = record { taken = λ z. absurd (omega arith); refused = λ z. rw (e, lt-ltb 64 n h, a, b) }
 
-good-case : (n size : ℕ) (t : Tab) (r : Rows) → RowsOk n size t → r ≡ rowsOf t → r .number ≡ 0 → Good n size r t
-good-case n size (tab specs lens next) r h e z =
-    let f : r .next ≡ next = ap (λ (x : Rows). x .next) e in
-    let a : r .specs ≡ pad specs = ap (λ (x : Rows). x .specs) e in
-    let b : r .lens ≡ pad lens = ap (λ (x : Rows). x .lens) e in
-    let a′ : take n (r .specs) ≡ specs = ap (take n) a ∙ take-pad n specs (h .0) in
-    let b′ : take n (r .lens) ≡ lens = ap (take n) b ∙ take-pad n lens (h .1) in
-    record { next-in = omega (arith, h .2); specs-pad = a ∙ ap pad (sym a′); lens-pad = b ∙ ap pad (sym b′); is = rw (a′, b′, f) }
-good-case n size (faulty number place) r h e z =
-    let f : r .number ≡ number = ap (λ (x : Rows). x .number) e in
-    absurd (omega arith)
+  pub count-good : r .number ≡ 0 → u64At s 0 ≡ got (r .rows) (r .next) → r .rows ≤ 64 → Counted s r
+  count-good z e h = record { taken = λ _. (e, h); refused = λ w. absurd (w z) }
+
+-- ---- row_at
+module _ (s : List ℕ) (p : ℕ) (r : Row) where
+  pub read-bad : {number place : ℕ} → u32At s p ≡ bad number place → r .number ≡ number → r .place ≡ place → Read s p r
+  read-bad {number} {place} e a b =
+      record {
+        taken = λ z. absurd (omega (arith, u32-fault s p number place e));
+        refused = λ z k. rw (a, b) (row-bad s p e k);
+      }
+
+  module _ {spec q : ℕ} (e : u32At s p ≡ got spec q) where
+    pub read-bad-len : {number place : ℕ} → u64At s q ≡ bad number place → r .number ≡ number → r .place ≡ place → Read s p r
+    read-bad-len {number} {place} f a b =
+        record {
+          taken = λ z. absurd (omega (arith, u64-fault s q number place f));
+          refused = λ z k. rw (a, b) (row-bad-len s p e f k);
+        }
+
+    pub read-good : u64At s q ≡ got (r .len) (r .next) → r .number ≡ 0 → r .spec ≡ spec → Read s p r
+    read-good f z a =
+        let k = u64-next s q (r .len) (r .next) f in
+        record { taken = λ _. (omega arith, k .1, rw a (row-good s p e f)); refused = λ w. absurd (w z) }
 
 -- ---- read_table: its ways out
-pub table-bad : (s : List ℕ) {r place : ℕ} → u64At s 0 ≡ bad r place → faulty r place ≡ parse s
-unfolding parse
-table-bad s e = rw e
-
-module _ (s : List ℕ) {n q : ℕ} (e : u64At s 0 ≡ got n q) where
-  pub table-11 : 64 < n → faulty 11 0 ≡ parse s
+module _ {s : List ℕ} {n q : ℕ} {t : Table} {p total i : ℕ} (g : Filling s q n t p total i) where
+  table-rows : judged (length s) (rowsAt n s q) ≡ parse s
   unfolding parse
-  table-11 h = rw (e, lt-ltb 64 n h)
+  table-rows = rw (g .counted, le-ltb 64 n (g .few))
 
-  module _ (h : n ≤ 64) where
-    table-rows : judged (length s) (rowsAt n s q) ≡ parse s
-    unfolding parse
-    table-rows = rw (e, le-ltb 64 n h)
+  pub table-bad : i < n → {r : Row} → Read s p r → (r .number ≡ 0 → ⊥) → faulty (r .number) (r .place) ≡ parse s
+  table-bad k w z = ap (judged (length s)) (going-bad (g .going) k (w .refused z)) ∙ table-rows
 
-    module _ {r : Rows} (f : r ≡ rowsOf (rowsAt n s q)) where
-      pub table-rows-bad : (r .number ≡ 0 → ⊥) → faulty (r .number) (r .place) ≡ parse s
-      table-rows-bad z = ap (judged (length s)) (bad-case (rowsAt n s q) r f z) ∙ table-rows
+  -- the rows after the last turn
+  module _ (m : n ≤ i) where
+    ended : i ≡ n
+    ended = omega (arith, g .going .within)
 
-      module _ (z : r .number ≡ 0) where
-        pub rows-good : Good n (length s) r (rowsAt n s q)
-        rows-good = good-case n (length s) (rowsAt n s q) r (rows-ok n s q (u64-next s 0 n q e .1)) f z
+    going-end : tab (take n (t .specs)) (take n (t .lens)) p ≡ rowsAt n s q
+    unfolding rowsAt
+    going-end =
+        let z : n - i ≡ 0 = omega arith in
+        rw (← g .going .rest, z, ended) (simp append-nil)
 
-        pub table-judged : judged (length s) (tab (take n (r .specs)) (take n (r .lens)) (r .next)) ≡ parse s
-        table-judged = ap (judged (length s)) (rows-good .is) ∙ table-rows
+    judging : Judged (tab (take n (t .specs)) (take n (t .lens)) p) (faultOf (take n (t .specs)) total (length s - p)) (parse s)
+    judging =
+        let w = rw ended at (g .summing) in
+        rw (← table-rows, ← going-end) (judged-same w (g .begun) (g .inside))
+
+    pub table-fault : (faultOf (take n (t .specs)) total (length s - p) ≡ 0 → ⊥)
+        → faulty (faultOf (take n (t .specs)) total (length s - p)) 0 ≡ parse s
+    table-fault z = judging .0 z
+
+    pub table-out : faultOf (take n (t .specs)) total (length s - p) ≡ 0
+        → _≡_ {A = Opened} (record { table = t; number = 0; place = 0; start = p }) (opened (parse s))
+    table-out z =
+        let w = rw ended at (g .summing) in
+        let a = rw ended at (g .going .specs-free) in
+        let b = rw ended at (g .starts-free) in
+        let c = rw ended at (g .going .lens-free) in
+        let x : total < length s = omega (arith, no-fault (take n (t .specs)) total (length s - p) z, g .begun, g .inside) in
+        let l : length (take n (t .specs)) ≡ n = length-take-le n (t .specs) (omega (arith, a .long, g .few)) in
+        let y : t .starts ≡ pad (startsFrom 0 (take n (t .lens))) = used-pad (t .starts) n (g .few) b ∙ ap pad (w .exact x .1) in
+        rw (← judging .1 z, ← used-pad (t .specs) n (g .few) a, ← y, ← used-pad (t .lens) n (g .few) c, l, ← g .many)
 
 -- ---- a table that parse gives, for every block
 abbrev pub ParseOk : ℕ → Tab → Type 0

@@ -1,9 +1,9 @@
 // The table of a block (the crate's storage/columns/raw_column.rs, the uncompressed half): one pass over its bytes.
 ghost use mathlib.Core.Path.{_≡_};
-ghost use Prim.Native.Nat.{_≤_};
+ghost use Prim.Native.Nat.{_+_, _<_, _≤_};
 ghost use lib.ListN.{length, take};
-ghost use Rattle.raw_column.specs.Table.{rowsAt, inOrder, plain, parse, judged, tab, faulty};
-ghost use Rattle.raw_column.specs.Rows.{pad, opened, rowsOf, startsOf};
+ghost use Rattle.raw_column.specs.Table.{inOrder, plain, parse, faulty};
+ghost use Rattle.raw_column.specs.Rows.{opened, emptyTable, faultOf, Counted, Read};
 use column_specification::ColumnSpec;
 use leb128::ParsedU32;
 use leb128::ParsedU64;
@@ -24,66 +24,80 @@ pub struct Opened {
     pub start: usize,
 }
 
-// Rows as they were read, and the position behind them; or a refusal.
-struct Rows {
-    specs: [u32; 64],
-    lens: [u64; 64],
+// How many rows a table has, and where they begin; or a refusal.
+struct Count {
     number: u8,
     place: usize,
+    rows: usize,
     next: usize,
 }
 
-// Where each column begins in the data, and how long they are together; or that they are longer than the data.
-struct Starts {
-    starts: [u64; 64],
-    total: u64,
-    over: bool,
+// A row, and the position behind it; or a refusal.
+struct Row {
+    number: u8,
+    place: usize,
+    spec: u32,
+    len: u64,
+    next: usize,
 }
 
-fn no_rows(number: u8, place: usize) -> Rows
-    ensures { λ r. ⌜ r ≡ rowsOf (faulty number place) ⌝ }
+fn no_count(number: u8, place: usize) -> Count
+    ensures { λ r. ⌜ (r .number ≡ number) × (r .place ≡ place) ⌝ }
 {
-    Rows {
-        specs: [0u32; 64],
-        lens: [0u64; 64],
+    Count {
         number: number,
         place: place,
+        rows: 0,
         next: 0,
     }
 }
 
-fn read_rows(block: &[u8], at: usize, n: usize) -> Rows
-    requires { ⌜ n ≤ 64 ⌝ }
-    ensures { λ r. ⌜ r ≡ rowsOf (rowsAt n (now (block .entry)) at) ⌝ }
+fn count_of(block: &[u8]) -> Count
+    ensures { λ r. ⌜ Counted (now (block .entry)) r ⌝ }
 {
-    let mut specs = [0u32; 64];
-    let mut lens = [0u64; 64];
-    let mut i: usize = 0;
-    let mut p = at;
-    while i < n {
-        match leb128::leb128_u32(block, p) {
-            ParsedU32::Refused(number, place) => {
-                return no_rows(number, place);
+    match leb128::leb128_u64(block, 0) {
+        ParsedU64::Refused(number, place) => no_count(number, place),
+        ParsedU64::Number(value, next) => {
+            if 64 < value {
+                return no_count(11, 0);
             }
-            ParsedU32::Number(spec, next) => match leb128::leb128_u64(block, next) {
-                ParsedU64::Refused(number, place) => {
-                    return no_rows(number, place);
-                }
-                ParsedU64::Number(len, after) => {
-                    specs[i] = spec;
-                    lens[i] = len;
-                    p = after;
-                    i += 1;
-                }
-            },
+            Count {
+                number: 0,
+                place: 0,
+                rows: value as usize,
+                next: next,
+            }
         }
     }
-    Rows {
-        specs: specs,
-        lens: lens,
-        number: 0,
-        place: 0,
-        next: p,
+}
+
+fn no_row(number: u8, place: usize) -> Row
+    ensures { λ r. ⌜ (r .number ≡ number) × (r .place ≡ place) ⌝ }
+{
+    Row {
+        number: number,
+        place: place,
+        spec: 0,
+        len: 0,
+        next: 0,
+    }
+}
+
+fn row_at(block: &[u8], p: usize) -> Row
+    ensures { λ r. ⌜ Read (now (block .entry)) p r ⌝ }
+{
+    match leb128::leb128_u32(block, p) {
+        ParsedU32::Refused(number, place) => no_row(number, place),
+        ParsedU32::Number(spec, next) => match leb128::leb128_u64(block, next) {
+            ParsedU64::Refused(number, place) => no_row(number, place),
+            ParsedU64::Number(len, after) => Row {
+                number: 0,
+                place: 0,
+                spec: spec,
+                len: len,
+                next: after,
+            },
+        },
     }
 }
 
@@ -118,42 +132,53 @@ fn is_plain(specs: &[u32], n: usize) -> bool
     true
 }
 
-fn starts_of(lens: &[u64], n: usize, room: u64) -> Starts
-    requires { ⌜ (n ≤ 64) × (n ≤ length (now lens)) ⌝ }
-    ensures { λ r. ⌜ r ≡ startsOf room (take n (now (lens .entry))) ⌝ }
+// A sum of lengths, kept at a block's size where it would pass that.
+fn capped(total: u64, len: u64, size: u64) -> u64
+    requires { ⌜ total ≤ size ⌝ }
+    ensures { λ r. ⌜ (r ≤ size) × (r ≤ total + len) × (r < size → r ≡ total + len) ⌝ }
 {
-    let mut starts = [0u64; 64];
-    let mut total: u64 = 0;
-    let mut i: usize = 0;
-    while i < n {
-        let l = lens[i];
-        if room - total < l {
-            return Starts {
-                starts: [0u64; 64],
-                total: 0,
-                over: true,
-            };
-        }
-        starts[i] = total;
-        total = total + l;
-        i += 1;
+    if size - total < len {
+        return size;
     }
-    Starts {
-        starts: starts,
-        total: total,
-        over: false,
+    total + len
+}
+
+// 12, 13, 14 or 15, of rows that were read; or 0.
+fn fault_of(specs: &[u32], n: usize, total: u64, room: u64) -> u8
+    requires { ⌜ n ≤ length (now specs) ⌝ }
+    ensures { λ r. ⌜ r ≡ faultOf (take n (now (specs .entry))) total room ⌝ }
+{
+    if !in_order(specs, n) {
+        return 12;
+    }
+    if !is_plain(specs, n) {
+        return 13;
+    }
+    if room < total {
+        return 14;
+    }
+    if total < room {
+        return 15;
+    }
+    0
+}
+
+// A table whose places are all unused.
+fn empty_table(rows: usize) -> Table
+    ensures { λ r. ⌜ r ≡ emptyTable rows ⌝ }
+{
+    Table {
+        specs: [0u32; 64],
+        starts: [0u64; 64],
+        lens: [0u64; 64],
+        rows: rows,
     }
 }
 
 fn refused(number: u8, place: usize) -> Opened
     ensures { λ r. ⌜ r ≡ opened (faulty number place) ⌝ }
 {
-    let t = Table {
-        specs: [0u32; 64],
-        starts: [0u64; 64],
-        lens: [0u64; 64],
-        rows: 0,
-    };
+    let t = empty_table(0);
     Opened {
         table: t,
         number: number,
@@ -162,59 +187,40 @@ fn refused(number: u8, place: usize) -> Opened
     }
 }
 
-// 12, 13, 14 and 15, of rows that were read.
-fn judge(rows: Rows, n: usize, size: usize) -> Opened
-    requires { ⌜ (n ≤ 64) × (rows .next ≤ size) × (rows .specs ≡ pad (take n (rows .specs))) × (rows .lens ≡ pad (take n (rows .lens))) ⌝ }
-    ensures { λ r. ⌜ r ≡ opened (judged size (tab (take n (rows .specs)) (take n (rows .lens)) (rows .next))) ⌝ }
+// The table of a block. Its rows are read into the table that is answered, so that no array goes from function to function.
+pub fn read_table(block: &[u8]) -> Opened
+    ensures { λ r. ⌜ r ≡ opened (parse (now (block .entry))) ⌝ }
 {
-    let specs = rows.specs;
-    let lens = rows.lens;
-    let next = rows.next;
-    if !in_order(&specs, n) {
-        return refused(12, 0);
+    let c = count_of(block);
+    if c.number != 0 {
+        return refused(c.number, c.place);
     }
-    if !is_plain(&specs, n) {
-        return refused(13, 0);
+    let n = c.rows;
+    let size = block.len() as u64;
+    let mut t = empty_table(n);
+    let mut p = c.next;
+    let mut total: u64 = 0;
+    let mut i: usize = 0;
+    while i < n {
+        let row = row_at(block, p);
+        if row.number != 0 {
+            return refused(row.number, row.place);
+        }
+        t.specs[i] = row.spec;
+        t.starts[i] = total;
+        t.lens[i] = row.len;
+        total = capped(total, row.len, size);
+        p = row.next;
+        i += 1;
     }
-    let room = (size - next) as u64;
-    let s = starts_of(&lens, n, room);
-    if s.over {
-        return refused(14, 0);
+    let number = fault_of(&t.specs, n, total, size - p as u64);
+    if number != 0 {
+        return refused(number, 0);
     }
-    if s.total < room {
-        return refused(15, 0);
-    }
-    let starts = s.starts;
-    let t = Table {
-        specs: specs,
-        starts: starts,
-        lens: lens,
-        rows: n,
-    };
     Opened {
         table: t,
         number: 0,
         place: 0,
-        start: next,
-    }
-}
-
-// The table of a block.
-pub fn read_table(block: &[u8]) -> Opened
-    ensures { λ r. ⌜ r ≡ opened (parse (now (block .entry))) ⌝ }
-{
-    match leb128::leb128_u64(block, 0) {
-        ParsedU64::Refused(number, place) => refused(number, place),
-        ParsedU64::Number(value, next) => {
-            if 64 < value {
-                return refused(11, 0);
-            }
-            let n = value as usize;
-            let rows = read_rows(block, next, n);
-            if rows.number != 0 {
-                return refused(rows.number, rows.place);
-            }
-            judge(rows, n, block.len())
-        }
+        start: p,
     }
 }

@@ -10,7 +10,7 @@ use Rattle.leb128.specs.Read.{u64At, u32At}
 use Rattle.leb128.proofs.Laws.{u64-next}
 use Rattle.leb128.proofs.Refusals.{u64-fault, u32-fault}
 use Rattle.raw_column.specs.Table.{Tab, tab, faulty, withNumber, withRow, rowsAt}
-use Rattle.raw_column.proofs.Opening.{Going, going-start, going-bad, going-bad-len, going-turn}
+use Rattle.raw_column.proofs.Opening.{row-bad, row-bad-len, row-good, Going, going-start, going-bad, going-turn}
 use Rattle.table_reason.specs.Rows.{noRows, WasRead}
 use Rattle.table_reason.specs.TableReason.{passed, rowsRead}
 use Rattle.table_reason.specs.True.{RowBad, bad-spec, bad-len, RowUnread}
@@ -77,20 +77,20 @@ module _ {s : List ℕ} {at n : ℕ} {specs lens : List ℕ} {i p : ℕ} (g : Re
   unfolding rowsRead
   reading-bad {r} {place} e =
       let z : rowsRead (n - i) s p ≡ 0 = rw (less n i t, e) in
-      refused (omega (arith, g .read)) (going-bad (g .going) t e) (u32-fault s p r place e)
+      refused (omega (arith, g .read)) (going-bad (g .going) t (row-bad s p e)) (u32-fault s p r place e)
 
   module _ {spec q : ℕ} (e : u32At s p ≡ got spec q) where
     pub reading-bad-len : {r place : ℕ} → u64At s q ≡ bad r place → WasRead s at n (noRows r place i)
     unfolding rowsRead
     reading-bad-len {r} {place} f =
         let z : rowsRead (n - i) s p ≡ 0 = rw (less n i t, e, f) in
-        refused (omega (arith, g .read)) (going-bad-len (g .going) t e f) (u64-fault s q r place f)
+        refused (omega (arith, g .read)) (going-bad (g .going) t (row-bad-len s p e f)) (u64-fault s q r place f)
 
     pub reading-turn : {len r : ℕ} → n ≤ 64 → u64At s q ≡ got len r → Reading s at n (set specs i spec) (set lens i len) (i + 1) r
     unfolding rowsRead
     reading-turn {len} {r} h f =
         let w : rowsRead (n - i) s p ≡ suc (rowsRead (n - (i + 1)) s r) = rw (less n i t, e, f) in
-        record { going = going-turn (g .going) t e h f; read = omega (arith, g .read) }
+        record { going = going-turn (g .going) t spec len h (row-good s p e f); read = omega (arith, g .read) }
 
 -- the answer after the last turn
 pub reading-out : {s : List ℕ} {at n : ℕ} {specs lens : List ℕ} {i p : ℕ} → Reading s at n specs lens i p → n ≤ i
