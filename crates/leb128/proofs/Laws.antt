@@ -1,5 +1,6 @@
 -- What crates above use of numbers, at a position: every number reads back from its encoding whatever follows (`-back`), every accepted
 -- encoding is the one that is written, of a number within its type (`-only`), and reading advances and stays within (`-next`).
+-- Of a number that was passed over, its end says whether it reads (`end-on`, `end-off`).
 -- An encoding has 1 to 10 bytes, and putting one where there is room stores it. Assumes nothing.
 use mathlib.Core.Path.{_≡_, refl, sym, ap}
 use mathlib.Core.List.{List, [], _∷_, _++_}
@@ -9,10 +10,10 @@ use native.Mathlib.Omega.{arith}
 use lib.Dec.{ltb, eqb}
 use lib.ListN.{length, getD, take, drop, length-drop}
 use lib.Seq.{sets, drop-append-seam, getD-drop}
-use Rattle.leb128.specs.Got.{got, bad}
+use Rattle.leb128.specs.Got.{Got, got, bad}
 use Rattle.leb128.specs.Digits.{Digits, whole, broken, more, digits}
 use Rattle.leb128.specs.Write.{u64Bytes, i64Bytes, putAt, putOut}
-use Rattle.leb128.specs.Read.{uLarge, uLong, unsigned, sLarge, sLong, signedOf, signed, u64At, i64At}
+use Rattle.leb128.specs.Read.{uLarge, uLong, unsigned, sLarge, sLong, signedOf, signed, u64At, endOf, i64At}
 use lib.IntN.{ℤ, pos, negsuc}
 use lib.Signed.{mag}
 use Rattle.leb128.proofs.Encoded.{encoded-last, encoded-some, encoded-short, put-yes}
@@ -61,6 +62,27 @@ u-after s at place v next (whole low scale prev last count) k e = go (uLarge las
 pub u64-next : (s : List ℕ) (at v next : ℕ) → u64At s at ≡ got v next → (at < next) × (next ≤ length s)
 unfolding u64At
 u64-next s at v next e = u-after s at (min at (length s)) v next (digits 0 0 (drop at s)) (counted 0 0 (drop at s)) e
+
+-- a number that was passed over: one stands there (`end-on`), or its end is 0 and it is refused (`end-off`)
+pub record Passed (g : Got ℕ) (next : ℕ) : Type 0 where
+  pub value : ℕ
+  pub read : g ≡ got value next
+
+pub record Refused (g : Got ℕ) : Type 0 where
+  pub number : ℕ
+  pub place : ℕ
+  pub read : g ≡ bad number place
+
+pub end-on : (g : Got ℕ) (next : ℕ) → next ≡ endOf g → (next ≡ 0 → ⊥) → Passed g next
+end-on (got v z) next e k = record { value = v; read = ap (got v) (sym e) }
+end-on (bad r place) next e k = absurd (k e)
+
+pub end-off : (s : List ℕ) (at next : ℕ) → next ≡ endOf (u64At s at) → next ≡ 0 → Refused (u64At s at)
+end-off s at next e z = go (u64At s at) refl e
+  where
+    go : (g : Got ℕ) → u64At s at ≡ g → next ≡ endOf g → Refused g
+    go (got v w) q e = absurd (omega (arith, u64-next s at v w q))
+    go (bad r place) q e = record { number = r; place = place; read = refl }
 
 s-after : (s : List ℕ) (at place next : ℕ) (x : ℤ) (c : Digits) → Counted (length (drop at s)) c → signed at place c ≡ got x next
     → (at < next) × (next ≤ length s)

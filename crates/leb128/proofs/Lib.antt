@@ -9,3 +9,4 @@ pub mod Short
 pub mod Sound
 pub mod Two
 pub mod Twos
+pub mod Unsigned

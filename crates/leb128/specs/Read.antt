@@ -49,6 +49,11 @@ signed at place (broken r) = bad r place
 unfoldable pub u64At : List ℕ → ℕ → Got ℕ
 u64At s at = unsigned at (min at (length s)) (digits 0 0 (drop at s))
 
+-- the position behind what was read; 0, which nothing has behind it, where it was refused
+abbrev pub endOf : {A : Type 0} → Got A → ℕ
+endOf (got a next) = next
+endOf (bad r place) = 0
+
 unfoldable pub i64At : List ℕ → ℕ → Got ℤ
 i64At s at = signed at (min at (length s)) (digits 0 0 (drop at s))
 

@@ -1,12 +1,12 @@
 // Strict LEB128 numbers (the crate's storage/parse/leb128.rs): reading at a position of a slice.
 ghost use mathlib.Core.Path.{_≡_};
-ghost use Prim.Native.Nat.{_+_, _<_, _^_};
-ghost use lib.ListN.{drop};
+ghost use Prim.Native.Nat.{_+_, _<_, _≤_, _^_};
+ghost use lib.ListN.{length, getD, drop};
 ghost use lib.IntN.{pos, negsuc};
 ghost use lib.Signed.{mag};
 ghost use Rattle.leb128.specs.Cases.{digitsOf, u64Of, i64Of, u32Of};
 ghost use Rattle.leb128.specs.Digits.{digits, whole};
-ghost use Rattle.leb128.specs.Read.{unsigned, signed, fill, u64At, i64At, u32At, nonzeroAt};
+ghost use Rattle.leb128.specs.Read.{signed, fill, u64At, endOf, i64At, u32At, nonzeroAt};
 ghost use Rattle.leb128.specs.Short.{short, i64By};
 ghost use Rattle.leb128.specs.Sound.{Sound};
 
@@ -92,35 +92,35 @@ fn digits_at(s: &[u8], at: usize) -> Digits
     Digits::Broken(1)
 }
 
-// The unsigned number of whole digits that begin at `at`.
-fn u64_of(at: usize, low: u64, scale: u64, prev: u8, last: u8, count: usize) -> ParsedU64
-    requires { ⌜ Sound low scale last count ⌝ }
-    requires { ⌜ at + count < 2 ^ 64 ⌝ }
-    ensures { λ r. ⌜ u64Of r ≡ unsigned at at (whole low scale prev last count) ⌝ }
-{
-    if count == 10 && 1 < last {
-        return ParsedU64::Refused(2, at);
-    }
-    if 1 < count && last == 0 {
-        return ParsedU64::Refused(3, at);
-    }
-    ParsedU64::Number(low + scale * wide(last), at + count)
-}
-
-// One of any length.
-fn long_u64(s: &[u8], at: usize) -> ParsedU64
+// A number of more than one byte, of which the first is at hand. What stands behind nine bytes ends it.
+fn long_u64(s: &[u8], at: usize, first: u8) -> ParsedU64
+    requires { ⌜ (at < length (now s)) × (first ≡ getD (now s) at 0) × (128 ≤ first) ⌝ }
     ensures { λ r. ⌜ u64Of r ≡ u64At (now (s .entry)) at ⌝ }
 {
-    match digits_at(s, at) {
-        Digits::Whole {
-            low,
-            scale,
-            prev,
-            last,
-            count,
-        } => u64_of(at, low, scale, prev, last, count),
-        Digits::Broken(r) => ParsedU64::Refused(r, if at < s.len() { at } else { s.len() }),
+    let mut low: u64 = wide(first - 128);
+    let mut scale: u64 = 128;
+    let mut count: usize = 1;
+    let mut i = at + 1;
+    while i < s.len() {
+        let b = s[i];
+        if count == 9 {
+            if b == 1 {
+                return ParsedU64::Number(low + scale, i + 1);
+            }
+            return ParsedU64::Refused(if b == 0 { 3 } else { 2 }, at);
+        }
+        if b < 128 {
+            if b == 0 {
+                return ParsedU64::Refused(3, at);
+            }
+            return ParsedU64::Number(low + scale * wide(b), i + 1);
+        }
+        low = low + scale * wide(b - 128);
+        scale = scale * 128;
+        count = count + 1;
+        i = i + 1;
     }
+    ParsedU64::Refused(1, at)
 }
 
 // The u64 at a position, or its refusal.
@@ -132,8 +132,43 @@ pub fn leb128_u64(s: &[u8], at: usize) -> ParsedU64
         if b < 128 {
             return ParsedU64::Number(wide(b), at + 1);
         }
+        return long_u64(s, at, b);
     }
-    long_u64(s, at)
+    ParsedU64::Refused(21, s.len())
+}
+
+// The position behind a number of more than one byte; 0 where it is refused.
+fn long_end(s: &[u8], at: usize) -> usize
+    requires { ⌜ (at < length (now s)) × (128 ≤ getD (now s) at 0) ⌝ }
+    ensures { λ r. ⌜ r ≡ endOf (u64At (now (s .entry)) at) ⌝ }
+{
+    let mut passed: usize = 1;
+    let mut i = at + 1;
+    while i < s.len() {
+        let b = s[i];
+        if passed == 9 {
+            return if b == 1 { i + 1 } else { 0 };
+        }
+        if b < 128 {
+            return if b == 0 { 0 } else { i + 1 };
+        }
+        passed = passed + 1;
+        i = i + 1;
+    }
+    0
+}
+
+// The position behind the u64 at a position; 0 where it is refused, which no number has behind it.
+pub fn end_u64(s: &[u8], at: usize) -> usize
+    ensures { λ r. ⌜ r ≡ endOf (u64At (now (s .entry)) at) ⌝ }
+{
+    if at < s.len() {
+        if s[at] < 128 {
+            return at + 1;
+        }
+        return long_end(s, at);
+    }
+    0
 }
 
 // n as a signed number, and -(n + 1), whose bits are those of n complemented.
@@ -514,18 +549,19 @@ pub fn leb128_u32(s: &[u8], at: usize) -> ParsedU32
     }
 }
 
-// The u64 at a position, which must not be 0, or its refusal.
+// The u64 at a position, which must not be 0, or its refusal. One of more than one byte never is.
 pub fn nonzero_leb128_u64(s: &[u8], at: usize) -> ParsedU64
     ensures { λ r. ⌜ u64Of r ≡ nonzeroAt (now (s .entry)) at ⌝ }
 {
-    match leb128_u64(s, at) {
-        ParsedU64::Number(v, next) => {
-            if v == 0 {
-                ParsedU64::Refused(4, at)
-            } else {
-                ParsedU64::Number(v, next)
-            }
-        }
-        ParsedU64::Refused(r, place) => ParsedU64::Refused(r, place),
+    if s.len() <= at {
+        return ParsedU64::Refused(21, s.len());
     }
+    let b = s[at];
+    if b == 0 {
+        return ParsedU64::Refused(4, at);
+    }
+    if b < 128 {
+        return ParsedU64::Number(wide(b), at + 1);
+    }
+    long_u64(s, at, b)
 }

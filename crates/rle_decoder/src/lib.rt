@@ -45,22 +45,20 @@ fn scan_repeat(s: &[u8], q: usize, had: u64, c: u64) -> Step
     }
 }
 
-// c literal values from q on, behind which there are `total` readings.
+// c literal values from q on, behind which there are `total` readings. One that cannot be read has the fault of a run of it. No other loop
+// calls `end_u64`, so that the compiler builds it into this one.
 fn scan_literal(s: &[u8], q: usize, total: u64, c: u64) -> Step
     ensures { λ r. ⌜ stepOf r ≡ literals u64E (now (s .entry)) total c q .next ⌝ }
 {
     let mut at = q;
     let mut left = c;
     while 0 < left {
-        match leb128::leb128_u64(s, at) {
-            ParsedU64::Number(_, next) => {
-                at = next;
-                left -= 1;
-            }
-            ParsedU64::Refused(n, place) => {
-                return Step::Off(n, place);
-            }
+        let next = leb128::end_u64(s, at);
+        if next == 0 {
+            return scan_repeat(s, at, 0, 0);
         }
+        at = next;
+        left -= 1;
     }
     Step::On(at, total)
 }

@@ -2,11 +2,10 @@
 use mathlib.Core.Path.{_≡_, refl, sym, _∙_}
 use native.Mathlib.Omega.{arith}
 use borrow.Author.Needs.{needs}
-use Rattle.leb128.specs.Cases.{u64Of}
+use Rattle.leb128.proofs.Laws.{end-on, end-off}
 use Rattle.encoding.specs.Column.{literals}
-use Rattle.encoding.proofs.Via.{via}
 use Rattle.encoding.proofs.Walking.{next-eq}
-use Rattle.encoding.proofs.Columns.{literals-on, literals-off, literals-none}
+use Rattle.encoding.proofs.Columns.{literals-on, literals-off, literals-none, repeated-bad}
 use Rattle.rle_decoder.specs.Word.{u64E}
 use Rattle.rle_decoder.proofs.scan_literal.Statement.{statement}
 use Rattle.rle_decoder.proofs.scan_literal.Tie as tie
@@ -20,11 +19,17 @@ abbrev μ-loop : tie.MeasureT-loop
 loop-holds : tie.Need-loop-holds Inv-loop μ-loop
 loop-holds c = refl
 
-leb128-u64-requires : tie.Need-leb128-u64-requires Inv-loop μ-loop
-leb128-u64-requires c κs = search needs
+end-u64-requires : tie.Need-end-u64-requires Inv-loop μ-loop
+end-u64-requires c κs = search needs
 
-enum-known-next : tie.Need-enum-known-next Inv-loop μ-loop
-enum-known-next c = search needs
+scan-repeat-requires : tie.Need-scan-repeat-requires Inv-loop μ-loop
+scan-repeat-requires c κs = search needs
+
+returns : tie.Need-returns Inv-loop μ-loop
+returns c =
+    let f = end-off _ (c .before .before .before .before .loop .at) _ (c .before .before .end-u64 .ensures) (c .before .if1 .taken) in
+    let e = literals-off u64E _ _ _ _ _ _ (c .before .before .before .loop-test .taken) (f .read) in
+    c .scan-repeat .ensures ∙ next-eq (repeated-bad _ _ _ _ _ _ (f .read)) ∙ sym (c .before .before .before .before .loop .inv ∙ next-eq e)
 
 sub-left : tie.Need-sub-left Inv-loop μ-loop
 sub-left c = omega arith
@@ -34,20 +39,9 @@ loop-less c = omega arith
 
 loop-again : tie.Need-loop-again Inv-loop μ-loop
 loop-again c =
-    let b = c .before .before .before in
-    let r = via u64Of (b .leb128-u64 .ensures) (c .before .next .given .1) in
-    let e = literals-on u64E _ _ _ _ _ _ (b .before .loop-test .taken) r in
-    b .before .before .loop .inv ∙ next-eq e
-
-enum-known-n : tie.Need-enum-known-n Inv-loop μ-loop
-enum-known-n c = search needs
-
-returns : tie.Need-returns Inv-loop μ-loop
-returns c =
-    let b = c .before .before .before in
-    let r = via u64Of (b .leb128-u64 .ensures) (c .before .n .given .1) in
-    let e = literals-off u64E _ _ _ _ _ _ (b .before .loop-test .taken) r in
-    sym (b .before .before .loop .inv ∙ next-eq e)
+    let g = end-on _ _ (c .before .end-u64 .ensures) (c .if1 .left) in
+    let e = literals-on u64E _ _ _ _ _ _ (c .before .before .loop-test .taken) (g .read) in
+    c .before .before .before .loop .inv ∙ next-eq e
 
 returns-2 : tie.Need-returns-2 Inv-loop μ-loop
 returns-2 c = sym (c .before .loop .inv ∙ next-eq (literals-none u64E _ _ _ _ (c .loop-test .left)))
@@ -59,11 +53,10 @@ scan-literal-spec =
     Inv-loop
     μ-loop
     loop-holds
-    leb128-u64-requires
-    enum-known-next
+    end-u64-requires
+    scan-repeat-requires
+    returns
     sub-left
     loop-less
     loop-again
-    enum-known-n
-    returns
     returns-2)
