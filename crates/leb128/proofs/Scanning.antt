@@ -1,6 +1,6 @@
--- The loop of `digits_at`. After n bytes worth low, where the next counts scale times, the digits x are `onto` the rest's digits.
--- A turn keeps that (`next`), and each way out reads the result off it (`final`, `tenth`, `none`, `cut`); `room` says that nothing wraps.
--- Assumes nothing.
+-- The loops over a number's bytes. After n bytes worth low, where the next counts scale times, the digits x are `onto` the rest's digits. That
+-- holds behind the first byte (`begun`), a turn keeps it (`next`), and each way out reads the result off it (`final`, `tenth`, `cut`); `room` says that nothing
+-- wraps. Assumes nothing.
 use mathlib.Core.Path.{_≡_, refl, sym, _∙_}
 use mathlib.Core.List.{List}
 use Prim.Native.Nat.{ℕ, suc, _+_, _*_, _-_, _^_, _≤_, _<_}
@@ -45,11 +45,16 @@ module _ (s : List ℕ) (x : Digits) (low scale n p i : ℕ) (inv : x ≡ onto l
       inv ∙ rw (add-one i, f, drop-cons s i 0 h, le-ltb _ _ b, ne-eqb _ _ e)
       (onto-more low scale n (getD s i 0 - 128) (digits (n + 1) (getD s i 0) (drop (suc i) s)))
 
-  pub none : length s ≤ i → n ≡ 0 → broken 21 ≡ x
-  none h e = sym (inv ∙ rw (drop-of-length-le s h, eq-eqb _ _ e))
-
   pub cut : length s ≤ i → (n ≡ 0 → ⊥) → broken 1 ≡ x
   cut h e = sym (inv ∙ rw (drop-of-length-le s h, ne-eqb _ _ e))
+
+-- behind the first byte, where more follow
+pub begun : (s : List ℕ) (at d first : ℕ) → at < length s → first ≡ getD s at 0 → 128 ≤ first → d ≡ first - 128
+    → digits 0 0 (drop at s) ≡ onto d 128 1 (digits 1 first (drop (at + 1) s))
+begun s at d first h f b e =
+    let z : 0 + 1 * d ≡ d = omega arith in
+    let g : d ≡ getD s at 0 - 128 = omega (arith, f, e) in
+    rw (z, ← f) at (next s (digits 0 0 (drop at s)) 0 1 0 0 at (onto-none _) h (omega (arith, f)) (λ k. omega arith) g)
 
 -- before the tenth byte, n bytes worth low and one more that counts d times: nothing wraps
 pub record Room (low scale n d : ℕ) : Type 0 where

@@ -18,7 +18,7 @@ use Rattle.leb128.specs.Read.{uLarge, u64At, endOf, nonzero, nonzeroAt}
 use Rattle.leb128.specs.Write.{u64Bytes}
 use Rattle.leb128.proofs.Encoded.{encoded-last}
 use Rattle.leb128.proofs.Laws.{u64-next, u64-only}
-use Rattle.leb128.proofs.Scanning.{onto, onto-none}
+use Rattle.leb128.proofs.Scanning.{onto}
 use Rattle.leb128.proofs.Scanning as scan
 
 pub record Scanned (s : List ℕ) (at low scale n i : ℕ) : Type 0 where
@@ -30,13 +30,12 @@ pub record Scanned (s : List ℕ) (at low scale n i : ℕ) : Type 0 where
 
 pub begun : (s : List ℕ) (at d : ℕ) → at < length s → 128 ≤ getD s at 0 → d ≡ getD s at 0 - 128 → Scanned s at d 128 1 (at + 1)
 begun s at d h b e =
-    let z : 0 + 1 * d ≡ d = omega arith in
     record {
       prev = getD s at 0;
       there = h;
       some = omega arith;
       place = refl;
-      same = rw z at (scan.next s (digits 0 0 (drop at s)) 0 1 0 0 at (onto-none _) h b (λ k. omega arith) e);
+      same = scan.begun s at d (getD s at 0) h refl b e;
     }
 
 and-small : (a : Bool) (last : ℕ) → last ≤ 1 → (a && ltb 1 last) ≡ false

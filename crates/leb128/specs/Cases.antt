@@ -2,19 +2,12 @@
 use Prim.Native.Nat.{ℕ}
 use lib.IntN.{ℤ}
 use Rattle.leb128.specs.Got.{Got, got, bad}
-use Rattle.leb128.specs.Digits as spec
-use Rattle.leb128.specs.declared.Digits.{Digits}
-use Rattle.leb128.specs.declared.Digits.the-variants as D
 use Rattle.leb128.specs.declared.ParsedU64.{ParsedU64}
 use Rattle.leb128.specs.declared.ParsedU64.the-variants as U
 use Rattle.leb128.specs.declared.ParsedI64.{ParsedI64}
 use Rattle.leb128.specs.declared.ParsedI64.the-variants as I
 use Rattle.leb128.specs.declared.ParsedU32.{ParsedU32}
 use Rattle.leb128.specs.declared.ParsedU32.the-variants as W
-
-abbrev pub digitsOf : Digits → spec.Digits
-digitsOf (D.Whole low scale prev last count) = spec.whole low scale prev last count
-digitsOf (D.Broken r) = spec.broken r
 
 abbrev pub u64Of : ParsedU64 → Got ℕ
 u64Of (U.Number v next) = got v next

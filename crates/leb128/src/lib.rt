@@ -1,27 +1,14 @@
 // Strict LEB128 numbers (the crate's storage/parse/leb128.rs): reading at a position of a slice.
 ghost use mathlib.Core.Path.{_≡_};
 ghost use Prim.Native.Nat.{_+_, _<_, _≤_, _^_};
-ghost use lib.ListN.{length, getD, drop};
+ghost use lib.ListN.{length, getD};
 ghost use lib.IntN.{pos, negsuc};
 ghost use lib.Signed.{mag};
-ghost use Rattle.leb128.specs.Cases.{digitsOf, u64Of, i64Of, u32Of};
-ghost use Rattle.leb128.specs.Digits.{digits, whole};
+ghost use Rattle.leb128.specs.Cases.{u64Of, i64Of, u32Of};
+ghost use Rattle.leb128.specs.Digits.{whole};
 ghost use Rattle.leb128.specs.Read.{signed, fill, u64At, endOf, i64At, u32At, nonzeroAt};
 ghost use Rattle.leb128.specs.Short.{short, i64By};
 ghost use Rattle.leb128.specs.Sound.{Sound};
-
-// A number's bytes up to its final byte: what the bytes before it add up to, what the final byte counts for, the byte before it (0 where
-// there is none), the final byte and how many bytes there are. Or a refusal's number.
-enum Digits {
-    Whole {
-        low: u64,
-        scale: u64,
-        prev: u8,
-        last: u8,
-        count: usize,
-    },
-    Broken(u8),
-}
 
 // A number and the position behind it; or a refusal's number and place.
 pub enum ParsedU64 {
@@ -56,40 +43,6 @@ fn number_of(x: i8) -> i64
     ensures { λ r. ⌜ r ≡ x ⌝ }
 {
     x as i64
-}
-
-fn digits_at(s: &[u8], at: usize) -> Digits
-    ensures { λ r. ⌜ digitsOf r ≡ digits 0 0 (drop at (now (s .entry))) ⌝ }
-{
-    let mut low: u64 = 0;
-    let mut scale: u64 = 1;
-    let mut prev: u8 = 0;
-    let mut n: usize = 0;
-    let mut i = at;
-    while i < s.len() {
-        let b = s[i];
-        if b < 128 {
-            return Digits::Whole {
-                low,
-                scale,
-                prev,
-                last: b,
-                count: n + 1,
-            };
-        }
-        if n == 9 {
-            return Digits::Broken(2);
-        }
-        low = low + scale * wide(b - 128);
-        scale = scale * 128;
-        prev = b;
-        n = n + 1;
-        i = i + 1;
-    }
-    if n == 0 {
-        return Digits::Broken(21);
-    }
-    Digits::Broken(1)
 }
 
 // A number of more than one byte, of which the first is at hand. What stands behind nine bytes ends it.
@@ -490,20 +443,48 @@ pub fn short_numbers() -> [i8; 256]
     SHORT
 }
 
+// A number of more than one byte, of which the first is at hand.
+fn long_i64(s: &[u8], at: usize, first: u8) -> ParsedI64
+    requires { ⌜ (at < length (now s)) × (first ≡ getD (now s) at 0) × (128 ≤ first) ⌝ }
+    ensures { λ r. ⌜ i64Of r ≡ i64At (now (s .entry)) at ⌝ }
+{
+    let mut low: u64 = wide(first - 128);
+    let mut scale: u64 = 128;
+    let mut prev: u8 = first;
+    let mut n: usize = 1;
+    let mut i = at + 1;
+    while i < s.len() {
+        let b = s[i];
+        if b < 128 {
+            return i64_of(at, low, scale, prev, b, n + 1);
+        }
+        if n == 9 {
+            return ParsedI64::Refused(2, at);
+        }
+        low = low + scale * wide(b - 128);
+        scale = scale * 128;
+        prev = b;
+        n = n + 1;
+        i = i + 1;
+    }
+    ParsedI64::Refused(1, at)
+}
+
 // The i64 at a position, or its refusal, by its bytes alone: for whoever reads one at a call and would make the table for it.
 pub fn i64_by_bytes(s: &[u8], at: usize) -> ParsedI64
     ensures { λ r. ⌜ i64Of r ≡ i64At (now (s .entry)) at ⌝ }
 {
-    match digits_at(s, at) {
-        Digits::Whole {
-            low,
-            scale,
-            prev,
-            last,
-            count,
-        } => i64_of(at, low, scale, prev, last, count),
-        Digits::Broken(r) => ParsedI64::Refused(r, if at < s.len() { at } else { s.len() }),
+    if s.len() <= at {
+        return ParsedI64::Refused(21, s.len());
     }
+    let b = s[at];
+    if 128 <= b {
+        return long_i64(s, at, b);
+    }
+    if b < 64 {
+        return ParsedI64::Number(up(wide(b)), at + 1);
+    }
+    ParsedI64::Number(down(wide(127 - b)), at + 1)
 }
 
 // The i64 at a position, or its refusal: a number of one byte from the table that is lent.

@@ -1,70 +1,88 @@
--- `leb128::i64_by_bytes` meets its contract. Assumes nothing.
+-- `leb128::i64_by_bytes` meets its contract: no byte, one, or more. Assumes nothing.
 use mathlib.Core.Path.{_≡_, sym, ap, _∙_}
-use Prim.Native.Nat.{_+_, _≤_, min}
-use borrow.Author.Needs.{needs}
+use Prim.Native.Nat.{ℕ, _+_, _-_, _≤_, _<_}
 use native.Mathlib.Omega.{arith}
-use lib.ListN.{length, drop}
-use Rattle.leb128.specs.Digits.{whole, digits}
-use Rattle.leb128.specs.Cases.{digitsOf}
-use Rattle.leb128.specs.Read.{i64At}
-use Rattle.leb128.specs.Sound.{Sound}
-use Rattle.leb128.proofs.Sound.{whole-sound, whole-place}
+use lib.IntN.{ℤ, pos, negsuc}
+use lib.ListN.{getD}
+use mir.Syntax.{w64}
+use mir.ValLaws.{toZ-ofZ}
+use borrow.Author.Needs.{needs, sfits-of}
+use borrow.Author.Tests.{lt-ltb, le-ltb}
+use Rattle.leb128.specs.Got.{got}
+use Rattle.leb128.specs.Short.{entryOf}
+use Rattle.leb128.proofs.Lookup.{one-i64}
+use Rattle.leb128.proofs.Refusals.{i64-none}
 use Rattle.leb128.proofs.i64_by_bytes.Statement.{statement}
 use Rattle.leb128.proofs.i64_by_bytes.Tie as tie
 
-digits-at-requires : tie.Need-digits-at-requires
-digits-at-requires c κs = search needs
+-- the number that a byte stands for alone
+not-negative : (b : ℕ) → b < 64 → pos b ≡ entryOf b
+not-negative b h = rw (lt-ltb b 64 h)
 
-enum-known-low : tie.Need-enum-known-low
-enum-known-low c = search needs
-
-found : (c : tie.After-low)
-    → let v = c .low .given .0 in whole (v .0) (v .1 .0) (v .1 .1 .0) (v .1 .1 .1 .0) (v .1 .1 .1 .1 .0) ≡ digits 0 0
-    (drop (c .before .before .before .before .args .at) (c .before .before .before .before .args .s .now))
-found c = ap digitsOf (sym (c .low .given .1)) ∙ c .before .before .digits-at .ensures
-
-sound : (c : tie.After-low) → let v = c .low .given .0 in let a = c .before .before .before .before .args in
-    Sound (v .0) (v .1 .0) (v .1 .1 .1 .0) (v .1 .1 .1 .1 .0) × (a .at + v .1 .1 .1 .1 .0 ≤ length (a .s .now))
-sound c = whole-sound _ _ (λ i. c .before .before .before .shared-slice-known .given i .fits) _ _ _ _ _ (found c)
-
-i64-of-requires : tie.Need-i64-of-requires
-i64-of-requires c κs = (sound (c .before) .0, omega (arith, sound (c .before)))
-
-enum-known-r : tie.Need-enum-known-r
-enum-known-r c = search needs
+negative : (b : ℕ) → 64 ≤ b → b < 128 → negsuc (127 - b) ≡ entryOf b
+negative b l h = rw (le-ltb b 64 l, lt-ltb b 128 h)
 
 returns : tie.Need-returns
-unfolding i64At
-returns c =
-    let shared-slice-known = c .before .before .before .before .before .shared-slice-known in
-    c .i64-of .ensures ∙ rw (
-      ← found (c .before .before),
-      whole-place _ _ (λ i. shared-slice-known .given i .fits) _ _ _ _ _
-          (found (c .before .before)),
-    )
+returns c = sym (i64-none _ (c .before .before .args .at) (c .if1 .taken))
+
+shared-slice-read-b : tie.Need-shared-slice-read-b
+shared-slice-read-b c = search needs
+
+long-i64-requires : tie.Need-long-i64-requires
+long-i64-requires c κs = search needs
 
 returns-2 : tie.Need-returns-2
-unfolding i64At
-returns-2 c =
-    let a = c .before .before .before .before .before .before .args in
-    let m : min (a .at) (length (a .s .now)) ≡ a .at = omega arith in
-    rw (← (ap digitsOf (sym (c .before .before .r .given .1)) ∙ c .before .before .before .before .digits-at .ensures), m)
+returns-2 c = search needs
+
+wide-requires : tie.Need-wide-requires
+wide-requires c κs = search needs
+
+up-requires : tie.Need-up-requires
+up-requires c κs = search needs
+
+add-t11 : tie.Need-add-t11
+add-t11 c = search needs
 
 returns-3 : tie.Need-returns-3
-unfolding i64At
 returns-3 c =
-    let a = c .before .before .before .before .before .before .args in
-    let m : min (a .at) (length (a .s .now)) ≡ length (a .s .now) = omega arith in
-    rw (← (ap digitsOf (sym (c .before .before .r .given .1)) ∙ c .before .before .before .before .digits-at .ensures), m)
+    let a = c .before .before .before .before .before .before .before .args in
+    let x = c .up .result in
+    let e = toZ-ofZ w64 x (sfits-of (c .up .ok)) ∙ c .up .ensures ∙ ap pos (c .before .wide .ensures) ∙ not-negative _ (c .before .before .if3 .taken) in
+    ap (λ (z : ℤ). got z (a .at + 1)) e ∙ one-i64 (a .s .now) (a .at) (omega arith) (omega arith)
+
+sub-wide : tie.Need-sub-wide
+sub-wide c = search needs
+
+wide-requires-2 : tie.Need-wide-requires-2
+wide-requires-2 c κs = search needs
+
+down-requires : tie.Need-down-requires
+down-requires c κs = search needs
+
+add-t4 : tie.Need-add-t4
+add-t4 c = search needs
+
+returns-4 : tie.Need-returns-4
+returns-4 c =
+    let a = c .before .before .before .before .before .before .before .args in
+    let x = c .down .result in
+    let e = toZ-ofZ w64 x (sfits-of (c .down .ok)) ∙ c .down .ensures ∙ ap negsuc (c .before .wide2 .ensures) ∙ negative _ (c .before .before .if3 .left) (omega arith) in
+    ap (λ (z : ℤ). got z (a .at + 1)) e ∙ one-i64 (a .s .now) (a .at) (omega arith) (omega arith)
 
 pub i64-by-bytes-spec : {M : Type 1} → statement M
 i64-by-bytes-spec =
     tie.close
     (tie.spec
-    digits-at-requires
-    enum-known-low
-    i64-of-requires
-    enum-known-r
     returns
+    shared-slice-read-b
+    long-i64-requires
     returns-2
-    returns-3)
+    wide-requires
+    up-requires
+    add-t11
+    returns-3
+    sub-wide
+    wide-requires-2
+    down-requires
+    add-t4
+    returns-4)
