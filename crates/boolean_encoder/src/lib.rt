@@ -48,7 +48,7 @@ fn skip_blocks(values: &[u8], i: usize, flag: u8) -> usize
     k
 }
 
-// The index behind the bytes from i on that equal `flag`: where they are many, and where they are perhaps few.
+// The index behind the bytes from i on that equal `flag`: in blocks at first; and one by one at first, since most runs are short.
 fn far_end(values: &[u8], i: usize, flag: u8) -> usize
     requires { ⌜ i ≤ length (now values) ⌝ }
     ensures { λ r. ⌜ r ≡ i + alike flag (drop i (now (values .entry))) ⌝ }
