@@ -506,12 +506,14 @@ pub fn leb128_i64(s: &[u8], at: usize) -> ParsedI64
     ensures { λ r. ⌜ i64Of r ≡ i64At (now (s .entry)) at ⌝ }
 {
     if at < s.len() {
-        let first = place_of(s[at]);
+        let b = s[at];
+        let first = place_of(b);
         if first < 128 {
             return ParsedI64::Number(number_of(SHORT[first]), at + 1);
         }
+        return long_i64(s, at, b);
     }
-    i64_by_bytes(s, at)
+    ParsedI64::Refused(21, s.len())
 }
 
 // The u32 at a position, read as a u64 first, or its refusal.
