@@ -6,6 +6,7 @@ pub mod Only
 pub mod Refusals
 pub mod Scanning
 pub mod Short
+pub mod Signed
 pub mod Sound
 pub mod Two
 pub mod Twos

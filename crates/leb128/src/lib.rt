@@ -153,24 +153,22 @@ fn fill_of(b: u8) -> u8
     if b % 128 < 64 { 0 } else { 127 }
 }
 
-// The signed number of whole digits that begin at `at`. Where bit 6 of the final byte is set, the sign is extended through all the bits
-// above it: the result is the complement of the complemented digits, exact at -1, at -64 and at -2^63.
-fn i64_of(at: usize, low: u64, scale: u64, prev: u8, last: u8, count: usize) -> ParsedI64
-    requires { ⌜ Sound low scale last count ⌝ }
-    requires { ⌜ at + count < 2 ^ 64 ⌝ }
-    ensures { λ r. ⌜ i64Of r ≡ signed at at (whole low scale prev last count) ⌝ }
+// The signed number of ten bytes that begins at `at`. The last byte counts 2^63 times and only repeats the sign: exact at -2^63.
+fn tenth_i64(at: usize, low: u64, scale: u64, prev: u8, last: u8) -> ParsedI64
+    requires { ⌜ Sound low scale last 10 ⌝ }
+    requires { ⌜ at + 10 < 2 ^ 64 ⌝ }
+    ensures { λ r. ⌜ i64Of r ≡ signed at at (whole low scale prev last 10) ⌝ }
 {
-    if count == 10 && last != fill_of(last) {
+    if last != fill_of(last) {
         return ParsedI64::Refused(2, at);
     }
-    if 1 < count && last == fill_of(prev) {
+    if last == fill_of(prev) {
         return ParsedI64::Refused(3, at);
     }
-    if last < 64 {
-        ParsedI64::Number(up(low + scale * wide(last)), at + count)
-    } else {
-        ParsedI64::Number(down(scale - 1 - low + scale * wide(127 - last)), at + count)
+    if last == 0 {
+        return ParsedI64::Number(up(low), at + 10);
     }
+    ParsedI64::Number(down(scale - 1 - low), at + 10)
 }
 
 // The mark that more bytes follow: no number of one byte.
@@ -443,7 +441,8 @@ pub fn short_numbers() -> [i8; 256]
     SHORT
 }
 
-// A number of more than one byte, of which the first is at hand.
+// A number of more than one byte, of which the first is at hand. Where bit 6 of the final byte is set, the sign is extended through all the bits
+// above it: the result is the complement of the complemented digits, exact at -1 and at -64.
 fn long_i64(s: &[u8], at: usize, first: u8) -> ParsedI64
     requires { ⌜ (at < length (now s)) × (first ≡ getD (now s) at 0) × (128 ≤ first) ⌝ }
     ensures { λ r. ⌜ i64Of r ≡ i64At (now (s .entry)) at ⌝ }
@@ -455,11 +454,21 @@ fn long_i64(s: &[u8], at: usize, first: u8) -> ParsedI64
     let mut i = at + 1;
     while i < s.len() {
         let b = s[i];
-        if b < 128 {
-            return i64_of(at, low, scale, prev, b, n + 1);
-        }
         if n == 9 {
+            if b < 128 {
+                return tenth_i64(at, low, scale, prev, b);
+            }
             return ParsedI64::Refused(2, at);
+        }
+        if b < 128 {
+            if b == fill_of(prev) {
+                return ParsedI64::Refused(3, at);
+            }
+            let v = low + scale * wide(b);
+            if b < 64 {
+                return ParsedI64::Number(up(v), i + 1);
+            }
+            return ParsedI64::Number(down(scale * 128 - 1 - v), i + 1);
         }
         low = low + scale * wide(b - 128);
         scale = scale * 128;
@@ -477,14 +486,14 @@ pub fn i64_by_bytes(s: &[u8], at: usize) -> ParsedI64
     if s.len() <= at {
         return ParsedI64::Refused(21, s.len());
     }
-    let b = s[at];
-    if 128 <= b {
-        return long_i64(s, at, b);
+    let first = s[at];
+    if 128 <= first {
+        return long_i64(s, at, first);
     }
-    if b < 64 {
-        return ParsedI64::Number(up(wide(b)), at + 1);
+    if first < 64 {
+        return ParsedI64::Number(up(wide(first)), at + 1);
     }
-    ParsedI64::Number(down(wide(127 - b)), at + 1)
+    ParsedI64::Number(down(wide(127 - first)), at + 1)
 }
 
 // The i64 at a position, or its refusal: a number of one byte from the table that is lent.

@@ -25,8 +25,8 @@ negative b l h = rw (le-ltb b 64 l, lt-ltb b 128 h)
 returns : tie.Need-returns
 returns c = sym (i64-none _ (c .before .before .args .at) (c .if1 .taken))
 
-shared-slice-read-b : tie.Need-shared-slice-read-b
-shared-slice-read-b c = search needs
+shared-slice-read-first : tie.Need-shared-slice-read-first
+shared-slice-read-first c = search needs
 
 long-i64-requires : tie.Need-long-i64-requires
 long-i64-requires c κs = search needs
@@ -74,7 +74,7 @@ i64-by-bytes-spec =
     tie.close
     (tie.spec
     returns
-    shared-slice-read-b
+    shared-slice-read-first
     long-i64-requires
     returns-2
     wide-requires
