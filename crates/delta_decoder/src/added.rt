@@ -23,7 +23,7 @@ pub(crate) enum Near {
     Other,
 }
 
-// No difference of two bytes is larger.
+// The bits of two bytes are below this, and their sign takes no more.
 const ROOM: u64 = 16384;
 
 fn wide(b: u8) -> u64
