@@ -3,7 +3,7 @@
 
 use std::fmt;
 use std::io::{stdin, stdout, BufRead, BufReader, Write};
-use std::process::{Child, Command, Stdio};
+use std::process::{Child, ChildStdout, Command, Stdio};
 
 /// Nanoseconds a unit.
 pub struct Measured {
@@ -26,8 +26,8 @@ impl fmt::Display for Measured {
 pub enum Best {
     /// There is no other build.
     Alone,
-    /// The other build, which this one asks.
-    Beside(Child),
+    /// The other build, which this one asks, and its answers.
+    Beside(Child, BufReader<ChildStdout>),
     /// This is the other build, which is asked.
     Asked,
 }
@@ -44,7 +44,9 @@ impl Best {
         };
         let mut other = Command::new(program);
         other.args(words).env(ASKED, "1").stdin(Stdio::piped()).stdout(Stdio::piped());
-        Best::Beside(other.spawn().expect("the other build starts"))
+        let mut child = other.spawn().expect("the other build starts");
+        let answers = BufReader::new(child.stdout.take().unwrap());
+        Best::Beside(child, answers)
     }
 
     pub fn asked(&self) -> bool {
@@ -52,7 +54,7 @@ impl Best {
     }
 
     pub fn there(&self) -> bool {
-        matches!(self, Best::Beside(_))
+        matches!(self, Best::Beside(..))
     }
 
     /// Is the next row to be measured? Where this build is asked, it waits for a line.
@@ -69,12 +71,15 @@ impl Best {
                 stdout().flush().unwrap();
                 None
             }
-            Best::Beside(child) => {
+            Best::Beside(child, answers) => {
                 writeln!(child.stdin.as_mut().unwrap()).unwrap();
                 let mut line = String::new();
-                BufReader::with_capacity(1, child.stdout.as_mut().unwrap()).read_line(&mut line).unwrap();
+                answers.read_line(&mut line).unwrap();
                 let (ours, rust) = line.trim().split_once(' ').expect("the other build answers");
-                Some(Measured { ours: ours.parse().unwrap(), rust: rust.parse().unwrap() })
+                Some(Measured {
+                    ours: ours.parse().unwrap(),
+                    rust: rust.parse().unwrap(),
+                })
             }
         }
     }
@@ -82,7 +87,7 @@ impl Best {
 
 impl Drop for Best {
     fn drop(&mut self) {
-        if let Best::Beside(child) = self {
+        if let Best::Beside(child, _) = self {
             drop(child.stdin.take());
             let _ = child.wait();
         }

@@ -43,7 +43,10 @@ impl Rows {
             a = a.min(time(&mut ours, calls));
             b = b.min(time(&mut rust, calls));
         }
-        let here = Measured { ours: a / units as f64, rust: b / units as f64 };
+        let here = Measured {
+            ours: a / units as f64,
+            rust: b / units as f64,
+        };
         let there = self.best.beside(&here);
         self.rows += 1;
         self.ahead += usize::from(here.ratio() <= 1.0);
@@ -57,7 +60,7 @@ impl Rows {
     fn limit<A>(&self, name: &str, size: usize, units: usize, mut f: impl FnMut() -> A) {
         if self.wants(name) && !self.best.asked() {
             let least = (0..TURNS).map(|_| time(&mut f, 100)).fold(f64::MAX, f64::min);
-            println!("{name:<34} {size:>9} {:>10.2}", least / units as f64);
+            println!("{name:<34} {size:>9} {:>10.4}", least / units as f64);
         }
     }
 
