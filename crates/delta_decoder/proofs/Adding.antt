@@ -1,7 +1,7 @@
 -- Differences read and added at once: what that says of the literal values still to come (`literal-on`, `literal-off`), and a difference of one or
 -- two bytes added by its bytes (`near-alone`, `near-paired`), without asking how many they are (`sum-alone`, `sum-paired`). Assumes nothing.
 use Prim.Native.Nat.{ℕ, suc, _+_, _*_, _-_, _/_, _%_, _^_, _≤_, _<_}
-use mathlib.Core.Path.{_≡_, refl, sym, _∙_, ap}
+use mathlib.Core.Path.{_≡_, refl, _∙_, ap}
 use mathlib.Core.List.{List}
 use mathlib.Core.Option.{Option, none, some}
 use mathlib.Core.Bool.{cond}

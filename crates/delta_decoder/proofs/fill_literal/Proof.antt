@@ -1,5 +1,5 @@
 -- `delta_decoder::fill_literal` meets its contract: each sum comes first of those still to come, or is not held. Assumes nothing.
-use mathlib.Core.Path.{_≡_, _∙_, subst}
+use mathlib.Core.Path.{_∙_, subst}
 use native.Mathlib.Omega.{arith}
 use lib.IntN.{pos}
 use mir.Syntax.{w64}

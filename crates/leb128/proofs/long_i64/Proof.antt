@@ -6,8 +6,8 @@ use mir.ValLaws.{toZ-ofZ}
 use borrow.Author.Needs.{needs, sfits-of}
 use native.Mathlib.Omega.{arith}
 use lib.IntN.{pos, negsuc}
-use lib.ListN.{length, getD, drop}
-use Rattle.leb128.specs.Digits.{whole, digits}
+use lib.ListN.{length, drop}
+use Rattle.leb128.specs.Digits.{digits}
 use Rattle.leb128.specs.Read.{i64At}
 use Rattle.leb128.proofs.Scanning.{Room, room, onto, begun, final, tenth, next, cut}
 use Rattle.leb128.proofs.Signed.{overlong, not-negative, negative}

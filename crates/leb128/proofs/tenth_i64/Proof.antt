@@ -1,9 +1,8 @@
 -- `leb128::tenth_i64` meets its contract: the laws of ten bytes, one for each way out. Assumes nothing.
-use mathlib.Core.Path.{_≡_, sym, _∙_}
+use mathlib.Core.Path.{sym, _∙_}
 use mir.Syntax.{w64}
 use mir.ValLaws.{toZ-ofZ}
 use borrow.Author.Needs.{needs, sfits-of}
-use Rattle.leb128.specs.Read.{fill}
 use Rattle.leb128.proofs.Signed.{repeats, tenth-large, tenth-overlong, tenth-up, tenth-down}
 use Rattle.leb128.proofs.tenth_i64.Statement.{statement}
 use Rattle.leb128.proofs.tenth_i64.Tie as tie

@@ -1,16 +1,10 @@
 -- `run_head::begun_at` meets its contract: one law for each sign of the count. Assumes nothing.
-use Prim.Native.Nat.{ℕ}
-use mathlib.Core.Path.{_≡_, sym, _∙_, ap}
-use mathlib.Core.List.{List}
-use lib.IntN.{ℤ, pos, negsuc, natAbs}
+use mathlib.Core.Path.{sym, _∙_, ap}
+use lib.IntN.{natAbs}
 use mir.Syntax.{w64}
 use mir.Val.{toZ, ofZ}
 use borrow.Author.Needs.{needs}
-use borrow.Author.Tests.{ne-eqb}
 use Rattle.leb128.proofs.Twos.{is-neg, is-pos, same}
-use Rattle.leb128.specs.Got.{got}
-use Rattle.leb128.specs.Read.{u64At}
-use Rattle.encoding.specs.Head.{Head, judged, absentHead, begun}
 use Rattle.run_head.proofs.Begun.{negative, nought, positive}
 use Rattle.run_head.proofs.begun_at.Statement.{statement}
 use Rattle.run_head.proofs.begun_at.Tie as tie

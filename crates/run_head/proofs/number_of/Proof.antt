@@ -1,9 +1,8 @@
 -- `run_head::number_of` meets its contract: eight bits fit into 64. Assumes nothing.
-use Prim.Native.Nat.{ℕ, suc, _≤_}
+use Prim.Native.Nat.{_≤_}
 use native.Mathlib.Omega.{arith}
 use lib.IntN.{ℤ, pos, negsuc, natAbs}
-use lib.Signed.{mag}
-use mathlib.Core.Path.{_≡_, refl}
+use mathlib.Core.Path.{refl}
 use mir.Syntax.{w8, w64}
 use mir.Val.{SFits}
 use mir.ValLaws.{toZ-ofZ}

@@ -1,16 +1,16 @@
 -- `delta_decoder::added::add_near` meets its contract: what the first two bytes say. Assumes nothing.
-use mathlib.Core.Path.{_≡_, _∙_, ap}
+use mathlib.Core.Path.{_∙_, ap}
 use mathlib.Core.List.{List}
-use mathlib.Core.Logic.{_⊎_, inl, inr}
+use mathlib.Core.Logic.{inl, inr}
 use Prim.Native.Nat.{ℕ, suc, _+_, _^_, _≤_, _<_}
 use native.Mathlib.Numerals.{add-one}
 use native.Mathlib.Omega.{arith}
 use denote.Ref.{now}
 use lib.ListN.{length, getD}
 use borrow.Author.Needs.{needs}
-use Rattle.leb128.specs.Got.{Got, got}
+use Rattle.leb128.specs.Got.{got}
 use Rattle.leb128.specs.Read.{i64At}
-use Rattle.delta_decoder.specs.Added.{adding, Nearly, Alone, Paired, NearBytes}
+use Rattle.delta_decoder.specs.Added.{adding, Nearly, NearBytes}
 use Rattle.delta_decoder.specs.declared.added.Near.{Near}
 use Rattle.delta_decoder.specs.declared.added.Near.the-variants as variant
 use Rattle.delta_decoder.proofs.Adding.{near-alone, near-paired}
