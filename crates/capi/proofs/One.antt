@@ -4,7 +4,6 @@ use Prim.Native.Nat.{ℕ}
 use mathlib.Core.Path.{_≡_, ap, _∙_}
 use mathlib.Core.Bool.{Bool}
 use mathlib.Core.List.{List, map}
-use mathlib.Core.Option.{Option}
 use lib.ListN.{length}
 use Rattle.leb128.specs.Answer.{Answer, within, left}
 use Rattle.encoding.specs.Column.{Reading}
@@ -16,23 +15,14 @@ use Rattle.boolean_decoder.specs.Decoded.{Decoded as DecodedFlags}
 use Rattle.text.specs.Name.{startOf, lengthOf}
 use Rattle.text_decoder.specs.Slots.{decodingNames, DecodedNames}
 use Rattle.salvage.specs.Salvage.{Outcome, judged, reported, leftBy, SavedOptional, SavedTurns, SavedNames}
-use Rattle.splice.specs.Contract.{optionalEdit, OptionalSpliced, booleanEdit, BooleanSpliced, textEdit, TextSpliced}
-use Rattle.splice.specs.Edit.{answered}
-use Rattle.splice.specs.Kind.{Kind}
-use Rattle.splice.specs.declared.End.{End}
-use Rattle.splice.specs.declared.Spliced.{Spliced as Edit}
-use Rattle.capi.specs.Cases.{counted, salvagedAs, splicedAs}
-use Rattle.capi.specs.Told.{Told, ToldEdit, ToldSalvage}
+use Rattle.capi.specs.Cases.{counted, salvagedAs}
+use Rattle.capi.specs.Told.{Told, ToldSalvage}
 use Rattle.capi.specs.declared.Counted.{Counted}
 use Rattle.capi.specs.declared.Salvaged.{Salvaged}
-use Rattle.capi.specs.declared.Spliced.{Spliced}
 
 -- a promise that holds of one answer alone
 pub told-one : {P : Answer → Type 0} {r : Counted} (a : Answer) → ((o : Answer) → P o → o ≡ a) → Told P r → r ≡ counted a
 told-one a only t = t .form ∙ ap counted (only (t .told) (t .holds))
-
-pub edit-one : {P : Edit → Type 0} {r : Spliced} (a : Edit) → ((o : Edit) → P o → o ≡ a) → ToldEdit P r → r ≡ splicedAs a
-edit-one a only t = t .form ∙ ap splicedAs (only (t .told) (t .holds))
 
 pub salvage-one : {P : Outcome → Type 0} {r : Salvaged} (a : Outcome) → ((o : Outcome) → P o → o ≡ a) → ToldSalvage P r → r ≡ salvagedAs a
 salvage-one a only t = t .form ∙ ap salvagedAs (only (t .told) (t .holds))
@@ -141,26 +131,3 @@ module _ {served : Bool} {t : Trace (Reading (List ℕ))} {bytes a a′ l l′ p
   pub saved-names-output : ToldSalvage (SavedNames served t bytes a a′ l l′ p p′ out out′) r
       → out′ ≡ leftBy (namesOutcome served t bytes a l p out) bytes out
   saved-names-output d = d .holds .output ∙ ap (λ (o : Outcome). leftBy o bytes out) (d .holds .answer)
-
--- an edit: its slices are fixed by the edit alone (`OptionalSpliced`, `BooleanSpliced`, `TextSpliced`), and its answer is
-pub optional-answer : {A : Type 0} {K : Kind (Option A)} {nought : A} {s : List ℕ} {position start : ℕ} {end : End} {new : List A} {flags : List ℕ}
-    {v v′ : List A} {p p′ out out′ : List ℕ} {r : Spliced}
-    → ToldEdit (OptionalSpliced K nought s position start end new flags v v′ p p′ out out′) r
-    → r ≡ splicedAs (answered (optionalEdit K s position start end new flags (length v) (length p) (length out)))
-optional-answer {A} {K} {nought} {s} {position} {start} {end} {new} {flags} {v} {v′} {p} {p′} {out} =
-    edit-one (answered (optionalEdit K s position start end new flags (length v) (length p) (length out))) (λ o e. e .answer)
-
-pub boolean-answer : {K : Kind ℕ} {s : List ℕ} {position start : ℕ} {end : End} {new v v′ out out′ : List ℕ} {r : Spliced}
-    → ToldEdit (BooleanSpliced K s position start end new v v′ out out′) r
-    → r ≡ splicedAs (answered (booleanEdit K s position start end new (length v) (length out)))
-boolean-answer {K} {s} {position} {start} {end} {new} {v} {v′} {out} =
-    edit-one (answered (booleanEdit K s position start end new (length v) (length out))) (λ o e. e .answer)
-
-pub text-answer : {K : Kind (Option (List ℕ))} {s : List ℕ} {position start : ℕ} {end : End} {bytes new-starts new-lens new-flags : List ℕ}
-    {a a′ l l′ p p′ out out′ : List ℕ} {r : Spliced}
-    → ToldEdit (TextSpliced K s position start end bytes new-starts new-lens new-flags a a′ l l′ p p′ out out′) r
-    → r ≡ splicedAs (answered (textEdit K s position start end bytes new-starts new-lens new-flags (length a) (length l) (length p) (length out)))
-text-answer {K} {s} {position} {start} {end} {bytes} {new-starts} {new-lens} {new-flags} {a} {a′} {l} {l′} {p} {p′} {out} =
-    edit-one
-    (answered (textEdit K s position start end bytes new-starts new-lens new-flags (length a) (length l) (length p) (length out)))
-    (λ o e. e .answer)

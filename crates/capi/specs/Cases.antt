@@ -8,11 +8,8 @@ use Rattle.column_specification.specs.Specification.{Packing, made}
 use Rattle.column_specification.specs.Specification as packing
 use Rattle.encoding.specs.declared.Survey.{Survey as RawSurvey}
 use Rattle.salvage.specs.Salvage.{Outcome, saved, refusal}
-use Rattle.raw_column.specs.declared.Table.{Table as RawTable}
-use Rattle.raw_column.specs.declared.Opened.{Opened as RawOpened}
 use Rattle.column_part.specs.declared.Part.{Part as RawPart}
 use Rattle.block_frame.specs.declared.Frame.{Frame as RawFrame}
-use Rattle.splice.specs.declared.Spliced.{Spliced as Edit}
 use Rattle.capi.specs.declared.NumberU64.{NumberU64}
 use Rattle.capi.specs.declared.NumberI64.{NumberI64}
 use Rattle.capi.specs.declared.NumberU32.{NumberU32}
@@ -20,11 +17,8 @@ use Rattle.capi.specs.declared.Counted.{Counted}
 use Rattle.capi.specs.declared.Survey.{Survey}
 use Rattle.capi.specs.declared.Salvaged.{Salvaged}
 use Rattle.capi.specs.declared.Specification.{Specification}
-use Rattle.capi.specs.declared.Table.{Table}
-use Rattle.capi.specs.declared.Opened.{Opened}
 use Rattle.capi.specs.declared.Part.{Part}
 use Rattle.capi.specs.declared.Frame.{Frame}
-use Rattle.capi.specs.declared.Spliced.{Spliced}
 
 abbrev pub numberU64 : Got ℕ → NumberU64
 numberU64 (got v next) = record { number = 0; place = 0; value = v; next = next }
@@ -56,17 +50,8 @@ specification (made spec) = record { number = 0; place = 0; spec = spec }
 specification (packing.refused r place) = record { number = r; place = place; spec = 0 }
 
 -- the library's structs, field by field
-abbrev pub tableAs : RawTable → Table
-tableAs t = record { specs = t .specs; starts = t .starts; lens = t .lens; rows = t .rows }
-
-abbrev pub openedAs : RawOpened → Opened
-openedAs o = record { number = o .number; place = o .place; start = o .start; table = tableAs (o .table) }
-
 abbrev pub partAs : RawPart → Part
 partAs p = record { number = p .number; place = p .place; start = p .start; len = p .len }
 
 abbrev pub frameAs : RawFrame → Frame
 frameAs f = record { number = f .number; place = f .place; at = f .at; len = f .len }
-
-abbrev pub splicedAs : Edit → Spliced
-splicedAs e = record { number = e .number; place = e .place; len = e .len; table = tableAs (e .table) }

@@ -6,7 +6,7 @@ ghost use Rattle.leb128_writer.specs.Cases.{writtenOf};
 ghost use Rattle.column_specification.specs.Cases.{packingOf};
 ghost use Rattle.encoding.specs.Cases.{answerOf};
 ghost use Rattle.salvage.specs.Salvage.{outcomeOf};
-ghost use Rattle.capi.specs.Cases.{numberU64, numberI64, numberU32, counted, surveyAs, salvagedAs, specification, tableAs, openedAs, partAs, frameAs, splicedAs};
+ghost use Rattle.capi.specs.Cases.{numberU64, numberI64, numberU32, counted, surveyAs, salvagedAs, specification, partAs, frameAs};
 ghost use Rattle.capi.specs.Cursors.{nextU64, nextI64, nextU8};
 ghost use Rattle.capi.specs.Pieces.{pieceU64, pieceI64, pieceU8};
 use crate::Counted;
@@ -17,16 +17,13 @@ use crate::NextU64;
 use crate::NumberI64;
 use crate::NumberU32;
 use crate::NumberU64;
-use crate::Opened;
 use crate::Part;
 use crate::PieceI64;
 use crate::PieceU8;
 use crate::PieceU64;
 use crate::Salvaged;
 use crate::Specification;
-use crate::Spliced;
 use crate::Survey;
-use crate::Table;
 use boolean_cursor::BooleanAnswer;
 use column_specification::Packed;
 use delta_cursor::DeltaAnswer;
@@ -291,32 +288,6 @@ pub(crate) fn packed(p: Packed) -> Specification
     }
 }
 
-fn table(t: raw_column::Table) -> Table
-    ensures { λ r. ⌜ r ≡ tableAs t ⌝ }
-{
-    let specs = t.specs;
-    let starts = t.starts;
-    let lens = t.lens;
-    Table {
-        specs: specs,
-        starts: starts,
-        lens: lens,
-        rows: t.rows,
-    }
-}
-
-pub(crate) fn opened(o: raw_column::Opened) -> Opened
-    ensures { λ r. ⌜ r ≡ openedAs o ⌝ }
-{
-    let t = o.table;
-    Opened {
-        number: o.number,
-        place: o.place,
-        start: o.start,
-        table: table(t),
-    }
-}
-
 pub(crate) fn part(p: column_part::Part) -> Part
     ensures { λ r. ⌜ r ≡ partAs p ⌝ }
 {
@@ -336,18 +307,6 @@ pub(crate) fn frame(f: block_frame::Frame) -> Frame
         place: f.place,
         at: f.at,
         len: f.len,
-    }
-}
-
-pub(crate) fn spliced(e: splice::Spliced) -> Spliced
-    ensures { λ r. ⌜ r ≡ splicedAs e ⌝ }
-{
-    let t = e.table;
-    Spliced {
-        number: e.number,
-        place: e.place,
-        len: e.len,
-        table: table(t),
     }
 }
 

@@ -6,11 +6,10 @@ ghost use Rattle.slots.specs.Splice.{spliceAnswer, splicedSlots};
 ghost use Rattle.splice.specs.Contract.{OptionalSpliced, BooleanSpliced, TextSpliced};
 ghost use Rattle.splice.specs.Kinds.{integer, delta, boolean, text};
 ghost use Rattle.capi.specs.Cases.{counted};
-ghost use Rattle.capi.specs.Told.{ToldEdit};
 use crate::Counted;
-use crate::Spliced;
 use crate::answers;
 use splice::End;
+use splice::Spliced;
 
 #[no_mangle]
 pub extern "C" fn grundavok_splice_integer(
@@ -24,10 +23,10 @@ pub extern "C" fn grundavok_splice_integer(
     present: &mut [u8],
     out: &mut [u8],
 ) -> Spliced
-    ensures { λ r. ⌜ ToldEdit (OptionalSpliced integer 0 (now (block .entry)) position start (End.At end) (now («new_values» .entry)) (now («new_present» .entry))
-        (now (values .entry)) (now (values .exit)) (now (present .entry)) (now (present .exit)) (now (out .entry)) (now (out .exit))) r ⌝ }
+    ensures { λ r. ⌜ OptionalSpliced integer 0 (now (block .entry)) position start (End.At end) (now («new_values» .entry)) (now («new_present» .entry))
+        (now (values .entry)) (now (values .exit)) (now (present .entry)) (now (present .exit)) (now (out .entry)) (now (out .exit)) r ⌝ }
 {
-    answers::spliced(rle_range::splice_integer(
+    rle_range::splice_integer(
         block,
         position,
         start,
@@ -37,7 +36,7 @@ pub extern "C" fn grundavok_splice_integer(
         values,
         present,
         out,
-    ))
+    )
 }
 
 #[no_mangle]
@@ -52,10 +51,10 @@ pub extern "C" fn grundavok_splice_delta(
     present: &mut [u8],
     out: &mut [u8],
 ) -> Spliced
-    ensures { λ r. ⌜ ToldEdit (OptionalSpliced delta (pos 0) (now (block .entry)) position start (End.At end) (now («new_values» .entry)) (now («new_present» .entry))
-        (now (values .entry)) (now (values .exit)) (now (present .entry)) (now (present .exit)) (now (out .entry)) (now (out .exit))) r ⌝ }
+    ensures { λ r. ⌜ OptionalSpliced delta (pos 0) (now (block .entry)) position start (End.At end) (now («new_values» .entry)) (now («new_present» .entry))
+        (now (values .entry)) (now (values .exit)) (now (present .entry)) (now (present .exit)) (now (out .entry)) (now (out .exit)) r ⌝ }
 {
-    answers::spliced(delta_range::splice_delta(
+    delta_range::splice_delta(
         block,
         position,
         start,
@@ -65,7 +64,7 @@ pub extern "C" fn grundavok_splice_delta(
         values,
         present,
         out,
-    ))
+    )
 }
 
 #[no_mangle]
@@ -78,10 +77,10 @@ pub extern "C" fn grundavok_splice_boolean(
     values: &mut [u8],
     out: &mut [u8],
 ) -> Spliced
-    ensures { λ r. ⌜ ToldEdit (BooleanSpliced boolean (now (block .entry)) position start (End.At end) (now («new_values» .entry))
-        (now (values .entry)) (now (values .exit)) (now (out .entry)) (now (out .exit))) r ⌝ }
+    ensures { λ r. ⌜ BooleanSpliced boolean (now (block .entry)) position start (End.At end) (now («new_values» .entry))
+        (now (values .entry)) (now (values .exit)) (now (out .entry)) (now (out .exit)) r ⌝ }
 {
-    answers::spliced(boolean_range::splice_boolean(
+    boolean_range::splice_boolean(
         block,
         position,
         start,
@@ -89,7 +88,7 @@ pub extern "C" fn grundavok_splice_boolean(
         new_values,
         values,
         out,
-    ))
+    )
 }
 
 #[no_mangle]
@@ -107,11 +106,11 @@ pub extern "C" fn grundavok_splice_text(
     present: &mut [u8],
     out: &mut [u8],
 ) -> Spliced
-    ensures { λ r. ⌜ ToldEdit (TextSpliced text (now (block .entry)) position start (End.At end) (now (bytes .entry)) (now («new_starts» .entry))
+    ensures { λ r. ⌜ TextSpliced text (now (block .entry)) position start (End.At end) (now (bytes .entry)) (now («new_starts» .entry))
         (now («new_lens» .entry)) (now («new_present» .entry)) (now (starts .entry)) (now (starts .exit)) (now (lens .entry)) (now (lens .exit))
-        (now (present .entry)) (now (present .exit)) (now (out .entry)) (now (out .exit))) r ⌝ }
+        (now (present .entry)) (now (present .exit)) (now (out .entry)) (now (out .exit)) r ⌝ }
 {
-    answers::spliced(text_encoder::range::splice_text(
+    text_encoder::range::splice_text(
         block,
         position,
         start,
@@ -124,7 +123,7 @@ pub extern "C" fn grundavok_splice_text(
         lens,
         present,
         out,
-    ))
+    )
 }
 
 #[no_mangle]

@@ -2,10 +2,8 @@
 ghost use lib.IntN.{pos};
 ghost use Rattle.splice.specs.Contract.{OptionalSpliced, BooleanSpliced, TextSpliced};
 ghost use Rattle.splice.specs.Kinds.{integer, delta, boolean, text};
-ghost use Rattle.capi.specs.Told.{ToldEdit};
-use crate::Spliced;
-use crate::answers;
 use splice::End;
+use splice::Spliced;
 
 #[no_mangle]
 pub extern "C" fn grundavok_splice_integer_to_end(
@@ -18,10 +16,10 @@ pub extern "C" fn grundavok_splice_integer_to_end(
     present: &mut [u8],
     out: &mut [u8],
 ) -> Spliced
-    ensures { λ r. ⌜ ToldEdit (OptionalSpliced integer 0 (now (block .entry)) position start End.OfList (now («new_values» .entry)) (now («new_present» .entry))
-        (now (values .entry)) (now (values .exit)) (now (present .entry)) (now (present .exit)) (now (out .entry)) (now (out .exit))) r ⌝ }
+    ensures { λ r. ⌜ OptionalSpliced integer 0 (now (block .entry)) position start End.OfList (now («new_values» .entry)) (now («new_present» .entry))
+        (now (values .entry)) (now (values .exit)) (now (present .entry)) (now (present .exit)) (now (out .entry)) (now (out .exit)) r ⌝ }
 {
-    answers::spliced(rle_range::splice_integer(
+    rle_range::splice_integer(
         block,
         position,
         start,
@@ -31,7 +29,7 @@ pub extern "C" fn grundavok_splice_integer_to_end(
         values,
         present,
         out,
-    ))
+    )
 }
 
 #[no_mangle]
@@ -45,10 +43,10 @@ pub extern "C" fn grundavok_splice_delta_to_end(
     present: &mut [u8],
     out: &mut [u8],
 ) -> Spliced
-    ensures { λ r. ⌜ ToldEdit (OptionalSpliced delta (pos 0) (now (block .entry)) position start End.OfList (now («new_values» .entry)) (now («new_present» .entry))
-        (now (values .entry)) (now (values .exit)) (now (present .entry)) (now (present .exit)) (now (out .entry)) (now (out .exit))) r ⌝ }
+    ensures { λ r. ⌜ OptionalSpliced delta (pos 0) (now (block .entry)) position start End.OfList (now («new_values» .entry)) (now («new_present» .entry))
+        (now (values .entry)) (now (values .exit)) (now (present .entry)) (now (present .exit)) (now (out .entry)) (now (out .exit)) r ⌝ }
 {
-    answers::spliced(delta_range::splice_delta(
+    delta_range::splice_delta(
         block,
         position,
         start,
@@ -58,7 +56,7 @@ pub extern "C" fn grundavok_splice_delta_to_end(
         values,
         present,
         out,
-    ))
+    )
 }
 
 #[no_mangle]
@@ -70,18 +68,10 @@ pub extern "C" fn grundavok_splice_boolean_to_end(
     values: &mut [u8],
     out: &mut [u8],
 ) -> Spliced
-    ensures { λ r. ⌜ ToldEdit (BooleanSpliced boolean (now (block .entry)) position start End.OfList (now («new_values» .entry))
-        (now (values .entry)) (now (values .exit)) (now (out .entry)) (now (out .exit))) r ⌝ }
+    ensures { λ r. ⌜ BooleanSpliced boolean (now (block .entry)) position start End.OfList (now («new_values» .entry))
+        (now (values .entry)) (now (values .exit)) (now (out .entry)) (now (out .exit)) r ⌝ }
 {
-    answers::spliced(boolean_range::splice_boolean(
-        block,
-        position,
-        start,
-        End::OfList,
-        new_values,
-        values,
-        out,
-    ))
+    boolean_range::splice_boolean(block, position, start, End::OfList, new_values, values, out)
 }
 
 #[no_mangle]
@@ -98,11 +88,11 @@ pub extern "C" fn grundavok_splice_text_to_end(
     present: &mut [u8],
     out: &mut [u8],
 ) -> Spliced
-    ensures { λ r. ⌜ ToldEdit (TextSpliced text (now (block .entry)) position start End.OfList (now (bytes .entry)) (now («new_starts» .entry))
+    ensures { λ r. ⌜ TextSpliced text (now (block .entry)) position start End.OfList (now (bytes .entry)) (now («new_starts» .entry))
         (now («new_lens» .entry)) (now («new_present» .entry)) (now (starts .entry)) (now (starts .exit)) (now (lens .entry)) (now (lens .exit))
-        (now (present .entry)) (now (present .exit)) (now (out .entry)) (now (out .exit))) r ⌝ }
+        (now (present .entry)) (now (present .exit)) (now (out .entry)) (now (out .exit)) r ⌝ }
 {
-    answers::spliced(text_encoder::range::splice_text(
+    text_encoder::range::splice_text(
         block,
         position,
         start,
@@ -115,5 +105,5 @@ pub extern "C" fn grundavok_splice_text_to_end(
         lens,
         present,
         out,
-    ))
+    )
 }

@@ -167,24 +167,6 @@ pub struct Specification {
     pub spec: u32,
 }
 
-// A table: each row's specification, where its column begins in the data, and its length; unused places are 0.
-#[repr(C)]
-pub struct Table {
-    pub specs: [u32; 64],
-    pub starts: [u64; 64],
-    pub lens: [u64; 64],
-    pub rows: usize,
-}
-
-// A table and where the data behind it begin.
-#[repr(C)]
-pub struct Opened {
-    pub number: u8,
-    pub place: usize,
-    pub start: usize,
-    pub table: Table,
-}
-
 // Where a column lies in its block.
 #[repr(C)]
 pub struct Part {
@@ -201,13 +183,4 @@ pub struct Frame {
     pub place: usize,
     pub at: usize,
     pub len: usize,
-}
-
-// The new block's length and table.
-#[repr(C)]
-pub struct Spliced {
-    pub number: u8,
-    pub place: usize,
-    pub len: usize,
-    pub table: Table,
 }

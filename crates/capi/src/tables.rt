@@ -5,17 +5,17 @@ ghost use Rattle.block_frame.specs.Frame.{framed, frameOf, frameOut};
 ghost use Rattle.column_part.specs.Part.{partAt, partFor};
 ghost use Rattle.raw_column.specs.Rows.{opened};
 ghost use Rattle.raw_column.specs.Table.{parse};
-ghost use Rattle.capi.specs.Cases.{openedAs, partAs, frameAs};
+ghost use Rattle.capi.specs.Cases.{partAs, frameAs};
 use crate::Frame;
-use crate::Opened;
 use crate::Part;
 use crate::answers;
+use raw_column::Opened;
 
 #[no_mangle]
 pub extern "C" fn grundavok_read_table(block: &[u8]) -> Opened
-    ensures { λ r. ⌜ r ≡ openedAs (opened (parse (now (block .entry)))) ⌝ }
+    ensures { λ r. ⌜ r ≡ opened (parse (now (block .entry))) ⌝ }
 {
-    answers::opened(raw_column::read_table(block))
+    raw_column::read_table(block)
 }
 
 #[no_mangle]

@@ -8,7 +8,8 @@ use column_specification::ColumnSpec;
 use leb128::ParsedU32;
 use leb128::ParsedU64;
 
-// A table: each row's specification, where its column begins in the data, and its length; unused places are 0.
+// A table: each row's specification, where its column begins in the data, and its length; unused places are 0. The boundary hands it out as it is.
+#[repr(C)]
 pub struct Table {
     pub specs: [u32; 64],
     pub starts: [u64; 64],
@@ -17,11 +18,12 @@ pub struct Table {
 }
 
 // A table and where the data behind it begin; or a refusal's number and place, and a table of no rows. The number is 0 where there is none.
+#[repr(C)]
 pub struct Opened {
-    pub table: Table,
     pub number: u8,
     pub place: usize,
     pub start: usize,
+    pub table: Table,
 }
 
 // How many rows a table has, and where they begin; or a refusal.
@@ -180,10 +182,10 @@ fn refused(number: u8, place: usize) -> Opened
 {
     let t = empty_table(0);
     Opened {
-        table: t,
         number: number,
         place: place,
         start: 0,
+        table: t,
     }
 }
 
@@ -218,9 +220,9 @@ pub fn read_table(block: &[u8]) -> Opened
         return refused(number, 0);
     }
     Opened {
-        table: t,
         number: 0,
         place: 0,
         start: p,
+        table: t,
     }
 }

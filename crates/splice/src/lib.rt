@@ -18,11 +18,12 @@ use raw_column::read_table;
 mod lent;
 
 // The new block's table and length; or a refusal's number and place, and a table of no rows. The number is 0 where there is none.
+#[repr(C)]
 pub struct Spliced {
-    pub table: Table,
     pub number: u8,
     pub place: usize,
     pub len: usize,
+    pub table: Table,
 }
 
 // The kinds of column that edits serve.
@@ -318,10 +319,10 @@ pub fn refused(number: u8, place: usize) -> Spliced
         rows: 0,
     };
     Spliced {
-        table: t,
         number: number,
         place: place,
         len: 0,
+        table: t,
     }
 }
 
@@ -336,9 +337,9 @@ pub fn block_answer(out: &[u8], len: usize) -> Spliced
     }
     let t = o.table;
     Spliced {
-        table: t,
         number: 0,
         place: 0,
         len: n,
+        table: t,
     }
 }
