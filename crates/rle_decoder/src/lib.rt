@@ -1,8 +1,9 @@
 // Reading a run-length column of optional u64, an Actor or Integer column (the decoder of the crate's columnar/encoding/rle.rs): its
 // readings counted in one pass over its bytes, whatever the counts say, or decoded into lent slots.
 ghost use mathlib.Core.Path.{_≡_};
-ghost use Prim.Native.Nat.{_+_, _≤_, _<_};
-ghost use lib.ListN.{length, replicate};
+ghost use mathlib.Core.Bool.{true};
+ghost use Prim.Native.Nat.{ℕ, _+_, _-_, _≤_, _<_};
+ghost use lib.ListN.{length, getD, replicate};
 ghost use lib.Seq.{sets};
 ghost use Rattle.leb128.specs.Read.{u64At};
 ghost use Rattle.leb128.specs.Short.{short};
@@ -45,13 +46,49 @@ fn scan_repeat(s: &[u8], q: usize, had: u64, c: u64) -> Step
     }
 }
 
+// Are the 16 bytes from k on all numbers of one byte?
+fn short_block(s: &[u8], k: usize) -> bool
+    requires { ⌜ k + 16 ≤ length (now s) ⌝ }
+    ensures { λ r. ⌜ (r ≡ true → (i : ℕ) → i < 16 → getD (now (s .entry)) (k + i) 0 < 128) ⌝ }
+{
+    let mut more: u8 = 0;
+    let mut j: usize = 0;
+    while j < 16 {
+        if 128 <= s[k + j] {
+            more = 1;
+        }
+        j += 1;
+    }
+    more == 0
+}
+
+// Past as many blocks of 16 numbers of one byte as stand from q on, but no more than c numbers.
+fn skip_short(s: &[u8], q: usize, c: u64) -> usize
+    ensures { λ r. ⌜ (q ≤ r) × (r ≤ q + c)
+        × ((total : ℕ) → literals u64E (now (s .entry)) total c q .next ≡ literals u64E (now (s .entry)) total (c - (r - q)) r .next) ⌝ }
+{
+    if s.len() <= q {
+        return q;
+    }
+    let room = s.len() - q;
+    let most = if c < room as u64 { c as usize } else { room };
+    let mut n: usize = 0;
+    while 16 <= most - n {
+        if !short_block(s, q + n) {
+            return q + n;
+        }
+        n += 16;
+    }
+    q + n
+}
+
 // c literal values from q on, behind which there are `total` readings. One that cannot be read has the fault of a run of it. No other loop
 // calls `end_u64`, so that the compiler builds it into this one.
 fn scan_literal(s: &[u8], q: usize, total: u64, c: u64) -> Step
     ensures { λ r. ⌜ stepOf r ≡ literals u64E (now (s .entry)) total c q .next ⌝ }
 {
-    let mut at = q;
-    let mut left = c;
+    let mut at = skip_short(s, q, c);
+    let mut left = c - (at - q) as u64;
     while 0 < left {
         let next = leb128::end_u64(s, at);
         if next == 0 {

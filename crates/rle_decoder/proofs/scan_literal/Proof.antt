@@ -1,5 +1,5 @@
 -- `rle_decoder::scan_literal` meets its contract: what follows the values still to come is what follows them all. Assumes nothing.
-use mathlib.Core.Path.{_≡_, refl, sym, _∙_}
+use mathlib.Core.Path.{_≡_, sym, _∙_}
 use native.Mathlib.Omega.{arith}
 use borrow.Author.Needs.{needs}
 use Rattle.leb128.proofs.Laws.{end-on, end-off}
@@ -16,8 +16,17 @@ Inv-loop s q total c at₀ left₀ at left = literals u64E s total c q .next ≡
 abbrev μ-loop : tie.MeasureT-loop
 μ-loop s q total c at₀ left₀ at left = left
 
+skip-short-requires : tie.Need-skip-short-requires Inv-loop μ-loop
+skip-short-requires c κs = search needs
+
+sub-left : tie.Need-sub-left Inv-loop μ-loop
+sub-left c = omega arith
+
+sub-left-2 : tie.Need-sub-left-2 Inv-loop μ-loop
+sub-left-2 c = omega arith
+
 loop-holds : tie.Need-loop-holds Inv-loop μ-loop
-loop-holds c = refl
+loop-holds c = c .skip-short .ensures .2 _
 
 end-u64-requires : tie.Need-end-u64-requires Inv-loop μ-loop
 end-u64-requires c κs = search needs
@@ -31,8 +40,8 @@ returns c =
     let e = literals-off u64E _ _ _ _ _ _ (c .before .before .before .loop-test .taken) (f .read) in
     c .scan-repeat .ensures ∙ next-eq (repeated-bad _ _ _ _ _ _ (f .read)) ∙ sym (c .before .before .before .before .loop .inv ∙ next-eq e)
 
-sub-left : tie.Need-sub-left Inv-loop μ-loop
-sub-left c = omega arith
+sub-left-3 : tie.Need-sub-left-3 Inv-loop μ-loop
+sub-left-3 c = omega arith
 
 loop-less : tie.Need-loop-less Inv-loop μ-loop
 loop-less c = omega arith
@@ -52,11 +61,14 @@ scan-literal-spec =
     (tie.spec
     Inv-loop
     μ-loop
+    skip-short-requires
+    sub-left
+    sub-left-2
     loop-holds
     end-u64-requires
     scan-repeat-requires
     returns
-    sub-left
+    sub-left-3
     loop-less
     loop-again
     returns-2)
