@@ -220,6 +220,36 @@ fn columns(rows: &mut Rows, shape: &str, n: usize) {
     );
 }
 
+/// Integer columns of short numbers: indexes of actors have one byte, depths as they are mostly two.
+fn integers(rows: &mut Rows, n: usize) {
+    for (what, least, most) in [("one byte", 0, 127), ("two bytes", 128, 16_383)] {
+        let mut random = Random(5);
+        let list: Vec<Option<u64>> = (0..n).map(|_| Some(least + random.below(most - least + 1))).collect();
+        let bytes = rle::encode(&list);
+        let (v, p) = slots(&list);
+        let mut out = vec![0u8; bytes.len()];
+        assert_eq!(ours::rle_encode(&v, &p, &mut out), bytes.len());
+        assert_eq!(out, bytes);
+        let (mut v2, mut p2) = (vec![0u64; n], vec![0u8; n]);
+        assert_eq!(ours::rle_decode(&bytes, &mut v2, &mut p2) as usize, n);
+        assert_eq!((&v2, &p2), (&v, &p));
+        rows.row(
+            &format!("rle decode, {what}"),
+            n,
+            n,
+            || ours::rle_decode(black_box(&bytes), &mut v2, &mut p2),
+            || rle::decode(black_box(&bytes), n),
+        );
+        rows.row(
+            &format!("rle encode, {what}"),
+            n,
+            n,
+            || ours::rle_encode(black_box(&v), &p, &mut out),
+            || rle::encode(black_box(&list)),
+        );
+    }
+}
+
 /// What was seen of readings that came one by one, so that each is looked at.
 #[derive(Default, Debug, PartialEq)]
 struct Seen {
@@ -401,6 +431,9 @@ fn main() {
         for n in SIZES {
             columns(&mut rows, shape, n);
         }
+    }
+    for n in SIZES {
+        integers(&mut rows, n);
     }
     for n in SIZES {
         edits(&mut rows, n);
