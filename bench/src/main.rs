@@ -119,36 +119,44 @@ fn slots<T: Copy + Default>(list: &[Option<T>]) -> (Vec<T>, Vec<u8>) {
     (values, list.iter().map(|x| u8::from(x.is_some())).collect())
 }
 
+/// A column of optional readings written and read whole, by both, after their results are compared; its bytes.
+macro_rules! whole {
+    ($rows:expr, $kind:ident, $what:expr, $n:expr, $list:expr, $decode:path, $encode:path) => {{
+        let bytes = $kind::encode(&$list);
+        let (v, p) = slots(&$list);
+        let mut out = vec![0u8; bytes.len()];
+        assert_eq!($encode(&v, &p, &mut out), bytes.len());
+        assert_eq!(out, bytes);
+        let (mut v2, mut p2) = (vec![Default::default(); $n], vec![0u8; $n]);
+        let read = $decode(&bytes, &mut v2, &mut p2) as usize;
+        let (v3, p3) = slots(&$kind::decode(&bytes, $n).unwrap());
+        assert_eq!((&v2[..read], &p2[..read]), (&v3[..], &p3[..]));
+        $rows.row(
+            &format!("{} decode, {}", stringify!($kind), $what),
+            $n,
+            $n,
+            || $decode(black_box(&bytes), &mut v2, &mut p2),
+            || $kind::decode(black_box(&bytes), $n),
+        );
+        $rows.row(
+            &format!("{} encode, {}", stringify!($kind), $what),
+            $n,
+            $n,
+            || $encode(black_box(&v), &p, &mut out),
+            || $kind::encode(black_box(&$list)),
+        );
+        bytes
+    }};
+}
+
 fn columns(rows: &mut Rows, shape: &str, n: usize) {
     let signed = stroke(shape, n);
     let unsigned: Vec<Option<u64>> = signed.iter().map(|x| x.map(|v| (v + 1_000_000_000) as u64)).collect();
     let flags: Vec<bool> = signed.iter().map(|x| x.is_some_and(|v| v / 4 % 2 == 0)).collect();
     macro_rules! optional {
         ($kind:ident, $list:expr, $decode:path, $encode:path, $walk:path, $readings:path) => {
-            let bytes = $kind::encode(&$list);
-            let (v, p) = slots(&$list);
-            let mut out = vec![0u8; bytes.len()];
-            assert_eq!($encode(&v, &p, &mut out), bytes.len());
-            assert_eq!(out, bytes);
-            let (mut v2, mut p2) = (vec![Default::default(); n], vec![0u8; n]);
-            let read = $decode(&bytes, &mut v2, &mut p2) as usize;
-            let (v3, p3) = slots(&$kind::decode(&bytes, n).unwrap());
-            assert_eq!((&v2[..read], &p2[..read]), (&v3[..], &p3[..]));
+            let bytes = whole!(rows, $kind, shape, n, $list, $decode, $encode);
             let name = |what| format!("{} {what}, {shape}", stringify!($kind));
-            rows.row(
-                &name("decode"),
-                n,
-                n,
-                || $decode(black_box(&bytes), &mut v2, &mut p2),
-                || $kind::decode(black_box(&bytes), n),
-            );
-            rows.row(
-                &name("encode"),
-                n,
-                n,
-                || $encode(black_box(&v), &p, &mut out),
-                || $kind::encode(black_box(&$list)),
-            );
             walks(
                 rows,
                 &name("next by next"),
@@ -225,28 +233,7 @@ fn integers(rows: &mut Rows, n: usize) {
     for (what, least, most) in [("one byte", 0, 127), ("two bytes", 128, 16_383)] {
         let mut random = Random(5);
         let list: Vec<Option<u64>> = (0..n).map(|_| Some(least + random.below(most - least + 1))).collect();
-        let bytes = rle::encode(&list);
-        let (v, p) = slots(&list);
-        let mut out = vec![0u8; bytes.len()];
-        assert_eq!(ours::rle_encode(&v, &p, &mut out), bytes.len());
-        assert_eq!(out, bytes);
-        let (mut v2, mut p2) = (vec![0u64; n], vec![0u8; n]);
-        assert_eq!(ours::rle_decode(&bytes, &mut v2, &mut p2) as usize, n);
-        assert_eq!((&v2, &p2), (&v, &p));
-        rows.row(
-            &format!("rle decode, {what}"),
-            n,
-            n,
-            || ours::rle_decode(black_box(&bytes), &mut v2, &mut p2),
-            || rle::decode(black_box(&bytes), n),
-        );
-        rows.row(
-            &format!("rle encode, {what}"),
-            n,
-            n,
-            || ours::rle_encode(black_box(&v), &p, &mut out),
-            || rle::encode(black_box(&list)),
-        );
+        whole!(rows, rle, what, n, list, ours::rle_decode, ours::rle_encode);
     }
 }
 

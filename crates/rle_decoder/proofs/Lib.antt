@@ -1,3 +1,3 @@
-pub mod Short
+mod Short
 pub mod WordLaws
 pub mod Words

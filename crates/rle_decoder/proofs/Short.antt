@@ -2,7 +2,6 @@
 use Prim.Native.Nat.{ℕ, zero, suc, _+_, _-_, _≤_, _<_}
 use mathlib.Core.Path.{_≡_, sym, _∙_}
 use mathlib.Core.List.{List}
-use native.Mathlib.Decide.{decLt}
 use native.Mathlib.Omega.{arith}
 use lib.ListN.{length, getD}
 use Rattle.leb128.proofs.Short.{one-u64}
@@ -11,13 +10,6 @@ use Rattle.encoding.specs.Column.{Spot, literals}
 use Rattle.encoding.proofs.Walking.{next-eq}
 use Rattle.encoding.proofs.Columns.{literals-on}
 use Rattle.rle_decoder.specs.Word.{u64E}
-
--- one more byte below 128
-pub below-more : (s : List ℕ) (k j : ℕ) → ((i : ℕ) → i < j → getD s (k + i) 0 < 128) → getD s (k + j) 0 < 128 → (i : ℕ) → i < j + 1 → getD s (k + i) 0 < 128
-below-more s k j h b i l = elim (decLt i j) [
-  | yes m ↦ h i m
-  | no m ↦ let e : j ≡ i = omega arith in rw e at b
-]
 
 module _ (s : List ℕ) (total : ℕ) where
   -- what comes behind c literal values from q on

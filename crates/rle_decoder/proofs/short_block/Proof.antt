@@ -4,8 +4,8 @@ use mathlib.Core.Path.{_≡_}
 use mathlib.Core.Logic.{⊎-elim}
 use native.Mathlib.Omega.{arith}
 use lib.ListN.{getD}
+use borrow.Author.Count.{below-more}
 use borrow.Author.Tests.{eqb-true}
-use Rattle.rle_decoder.proofs.Short.{below-more}
 use Rattle.rle_decoder.proofs.short_block.Statement.{statement}
 use Rattle.rle_decoder.proofs.short_block.Tie as tie
 
@@ -36,7 +36,7 @@ loop-again c =
       omega arith,
       λ h.
           ⊎-elim (λ w. absurd (omega arith))
-          (λ w. below-more (a .before .args .s .now) (a .before .args .k) _ (a .loop .inv .1 (omega arith)) (w .0 .left))
+          (λ w. below-more (λ (i : ℕ). getD (a .before .args .s .now) (a .before .args .k + i) 0 < 128) _ (a .loop .inv .1 (omega arith)) (w .0 .left))
           (c .if1 .came),
     )
 
