@@ -7,11 +7,12 @@ use mathlib.Core.Bool.{Bool, true, false, cond, not}
 use native.Mathlib.Omega.{arith}
 use lib.ListN.{length, getD, set, take, drop, length-append}
 use lib.Seq.{drop-drop, take-add}
-use lib.Dec.{ltb, leb}
-use borrow.Author.Tests.{leb-true, le-ltb, le-leb}
+use lib.Dec.{ltb}
+use borrow.Author.Tests.{le-ltb, le-leb}
 use Rattle.leb128.specs.Got.{Got, got, bad}
-use Rattle.leb128.specs.Read.{narrow, u32At, u64At}
+use Rattle.leb128.specs.Read.{u32At, u64At}
 use Rattle.leb128.specs.Write.{u64Bytes}
+use Rattle.leb128.proofs.Cut.{u32-is}
 use Rattle.leb128.proofs.Laws.{u64-back, u64-only, u64-next}
 use Rattle.raw_column.specs.Table.{Tab, tab, faulty, withNumber, withRow, rowsAt, inOrder, plain, sum, judged, parse}
 use Rattle.block_frame.specs.Columns.{rowsBytes, tableBytes}
@@ -38,7 +39,7 @@ below-set bound (x ∷ xs) zero v h b (suc k) = h (suc k)
 below-set bound (x ∷ xs) (suc i) v h b zero = h zero
 below-set bound (x ∷ xs) (suc i) v h b (suc k) = below-set bound xs i v (λ j. h (suc j)) b k
 
-below-cons : (bound x : ℕ) (xs : List ℕ) → x < bound → Below bound xs → Below bound (x ∷ xs)
+pub below-cons : (bound x : ℕ) (xs : List ℕ) → x < bound → Below bound xs → Below bound (x ∷ xs)
 below-cons bound x xs b h zero = b
 below-cons bound x xs b h (suc k) = h k
 
@@ -98,18 +99,20 @@ table-back specs lens d p e =
 -- ---- what is accepted is what is written
 
 -- how a table came to be accepted: a count and its rows, which passed the checks
-record Accepted (s specs lens : List ℕ) (next : ℕ) : Type 0 where
+pub record Accepted (s specs lens : List ℕ) (next : ℕ) : Type 0 where
   pub count : ℕ
   pub first : ℕ
   pub counted : u64At s 0 ≡ got count first
+  pub few : ltb 64 count ≡ false
   pub rows : rowsAt count s first ≡ tab specs lens next
   pub ordered : inOrder 0 specs ≡ true
   pub bare : plain specs ≡ true
 
 module _ (s specs lens : List ℕ) (next : ℕ) where
-  accepted-rows : (n q : ℕ) → u64At s 0 ≡ got n q → (t : Tab) → rowsAt n s q ≡ t → judged (length s) t ≡ tab specs lens next → Accepted s specs lens next
-  accepted-rows n q c (faulty number place) r e = let z : _≡_ {A = ℕ} 0 1 = cc in absurd (omega arith)
-  accepted-rows n q c (tab a b m) r e =
+  accepted-rows : (n q : ℕ) → u64At s 0 ≡ got n q → ltb 64 n ≡ false → (t : Tab) → rowsAt n s q ≡ t → judged (length s) t ≡ tab specs lens next
+      → Accepted s specs lens next
+  accepted-rows n q c f (faulty number place) r e = let z : _≡_ {A = ℕ} 0 1 = cc in absurd (omega arith)
+  accepted-rows n q c f (tab a b m) r e =
       go (inOrder 0 a) (plain a) (ltb (length s - m) (sum b)) (ltb (sum b) (length s - m)) refl refl e
     where
       go : (w x y z : Bool) → inOrder 0 a ≡ w → plain a ≡ x
@@ -125,6 +128,7 @@ module _ (s specs lens : List ℕ) (next : ℕ) where
             count = n;
             first = q;
             counted = c;
+            few = f;
             rows = r ∙ e;
             ordered = rw a′ at i;
             bare = rw a′ at j;
@@ -133,31 +137,18 @@ module _ (s specs lens : List ℕ) (next : ℕ) where
   accepted-count : (g : Got ℕ) → u64At s 0 ≡ g
       → withNumber g (λ n q. cond (ltb 64 n) (faulty 11 0) (judged (length s) (rowsAt n s q))) ≡ tab specs lens next → Accepted s specs lens next
   accepted-count (bad number place) c e = let z : _≡_ {A = ℕ} 0 1 = cc in absurd (omega arith)
-  accepted-count (got n q) c e = go (ltb 64 n) e
+  accepted-count (got n q) c e = go (ltb 64 n) refl e
     where
-      go : (t : Bool) → cond t (faulty 11 0) (judged (length s) (rowsAt n s q)) ≡ tab specs lens next → Accepted s specs lens next
-      go true e = let z : _≡_ {A = ℕ} 0 1 = cc in absurd (omega arith)
-      go false e = accepted-rows n q c (rowsAt n s q) refl e
+      go : (t : Bool) → ltb 64 n ≡ t → cond t (faulty 11 0) (judged (length s) (rowsAt n s q)) ≡ tab specs lens next → Accepted s specs lens next
+      go true f e = let z : _≡_ {A = ℕ} 0 1 = cc in absurd (omega arith)
+      go false f e = accepted-rows n q c f (rowsAt n s q) refl e
 
-  accepted : parse s ≡ tab specs lens next → Accepted s specs lens next
+  pub accepted : parse s ≡ tab specs lens next → Accepted s specs lens next
   unfolding parse
   accepted e = accepted-count (u64At s 0) refl e
 
--- a number of 32 bits is one of 64 that is small
-u32-is : (s : List ℕ) (at v next : ℕ) → u32At s at ≡ got v next → (u64At s at ≡ got v next) × (v < 2 ^ 32)
-unfolding u32At
-u32-is s at v next e = go (u64At s at) refl e
-  where
-    small : (w q : ℕ) (t : Bool) → leb w 4294967295 ≡ t → cond t (got w q) (bad 2 at) ≡ got v next → (got w q ≡ got v next) × (v < 2 ^ 32)
-    small w q true h e = let z : w ≡ v = cc in (e, omega (arith, leb-true w 4294967295 h))
-    small w q false h e = let z : _≡_ {A = ℕ} 0 1 = cc in absurd (omega arith)
-
-    go : (g : Got ℕ) → u64At s at ≡ g → narrow at g ≡ got v next → (u64At s at ≡ got v next) × (v < 2 ^ 32)
-    go (bad number place) h e = let z : _≡_ {A = ℕ} 0 1 = cc in absurd (omega arith)
-    go (got w q) h e = let r = small w q (leb w 4294967295) refl e in (h ∙ r .0, r .1)
-
 -- n rows that are read from a position: so many, behind it, and each specification within its type
-abbrev Ended : ℕ → ℕ → Tab → Type 0
+abbrev pub Ended : ℕ → ℕ → Tab → Type 0
 Ended n p (tab specs lens next) = (length specs ≡ n) × (p ≤ next) × Below (2 ^ 32) specs
 Ended n p (faulty number place) = Unit {0}
 
@@ -165,7 +156,7 @@ ended-row : (n p r spec len : ℕ) (t : Tab) → p ≤ r → spec < 2 ^ 32 → E
 ended-row n p r spec len (tab specs lens next) l b h = (ap suc (h .0), omega arith, below-cons (2 ^ 32) spec specs b (h .2))
 ended-row n p r spec len (faulty number place) l b h = tt
 
-ended : (n : ℕ) (s : List ℕ) (p : ℕ) → Ended n p (rowsAt n s p)
+pub ended : (n : ℕ) (s : List ℕ) (p : ℕ) → Ended n p (rowsAt n s p)
 unfolding rowsAt
 ended zero s p = (refl, omega arith, λ i. omega arith)
 ended (suc n) s p =

@@ -1,4 +1,5 @@
 pub mod Back
+pub mod Cut
 pub mod Encoded
 pub mod Laws
 pub mod Lookup
