@@ -468,7 +468,7 @@ grundavok_survey grundavok_text_survey(const uint8_t *s, size_t s_len);
  * Refusals, in this order: 17 for another type; 8 where slices of slots differ in length; 9 where slots are fewer than the readings that
  * survive; 10. Any of them leaves slots and out as they were, and tells no fault.
  * Slots: as many as the survey's readings; those that the counts announce behind a fault need none. Output: 11 times the column's length
- * always does, mostly the column's length does too; or lend more after 10.
+ * always does, which is proved; mostly the column's length does too; or lend more after 10.
  * Absent readings that survive are kept, counted and stand in the slots, though nothing is written where no kept one is present: kept can be
  * above 0 with written 0. A boolean no is present. The starts of names count in the given column s, not in out. */
 grundavok_salvaged grundavok_rle_salvage(uint8_t typ, const uint8_t *s, size_t s_len, uint64_t *values, size_t values_len,

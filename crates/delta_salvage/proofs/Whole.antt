@@ -1,49 +1,28 @@
 -- The column whose size a walk finds is the one that is written: the differences of the sums that survive are as many of those that were read, so our
 -- writer takes them. Assumes nothing.
 use Prim.Native.Nat.{ℕ, _<_}
-use mathlib.Core.Path.{_≡_, refl, sym, _∙_, ap}
-use mathlib.Core.List.{List, [], _∷_, map}
-use mathlib.Core.Option.{Option, none, some}
-use mathlib.Core.Bool.{Bool, true, false, cond}
-use lib.IntN.{ℤ, pos, _+ℤ_}
+use mathlib.Core.Path.{_≡_, sym, _∙_, ap}
+use mathlib.Core.List.{List, map}
+use mathlib.Core.Option.{Option}
+use lib.IntN.{ℤ, pos}
 use lib.ListN.{length, take, getD}
 use Rattle.leb128.specs.Answer.{done}
-use Rattle.encoding.specs.Column.{Reading, absent, present, value, trace}
+use Rattle.encoding.specs.Column.{value, trace}
 use Rattle.encoding.specs.Slots.{slotOf, flagOf}
 use Rattle.encoding.specs.Survivors.{surveyOf}
-use Rattle.encoding.specs.Walk.{Ending}
 use Rattle.encoding.specs.Writer.{columnBytes}
 use Rattle.encoding.specs.declared.Survey.{Survey}
 use Rattle.encoding.proofs.Surveying.{survey-readings}
-use Rattle.delta_decoder.specs.Difference.{i64E, holds}
-use Rattle.delta_decoder.specs.Sums.{heldSum, added, addUp, deltaTrace}
+use Rattle.delta_decoder.specs.Difference.{i64E}
+use Rattle.delta_decoder.specs.Sums.{deltaTrace}
 use Rattle.delta_decoder.proofs.Limits.{delta-limit}
 use Rattle.delta_encoder.specs.Differences.{differences, deltaBytes, wideAt, deltaJudged}
-use Rattle.delta_encoder.proofs.Back.{taken-off, delta-writable}
+use Rattle.delta_encoder.proofs.Back.{delta-writable}
 use Rattle.delta_encoder.proofs.Writing.{judged-narrow}
 use Rattle.rewriting.specs.Rewritten.{rewritten, rewrittenAs}
 use Rattle.runs.specs.declared.Values.the-variants as values
 use Rattle.salvage.proofs.Slots.{slots-list, kept-good}
-
--- ---- differences added up, and their sums' differences again
-
-sums-back : (z : ℤ) (rs : List (Reading ℤ)) (e : Ending)
-    → differences z (map value (addUp z rs e .readings)) ≡ take (length (addUp z rs e .readings)) (map value rs)
-unfolding addUp differences value added heldSum
-sums-back z [] e = refl
-sums-back z (absent ∷ rs) e = ap (λ (l : List (Option ℤ)). none ∷ l) (sums-back z rs e)
-sums-back z (present d q ∷ rs) e = go (holds (z +ℤ d)) (sums-back (z +ℤ d) rs e)
-  where
-    go : (t : Bool)
-        → differences (z +ℤ d) (map value (addUp (z +ℤ d) rs e .readings)) ≡ take (length (addUp (z +ℤ d) rs e .readings)) (map value rs)
-        → differences z (map value (added q (cond t (some (z +ℤ d)) none) (λ y. addUp y rs e) .readings))
-        ≡ take (length (added q (cond t (some (z +ℤ d)) none) (λ y. addUp y rs e) .readings)) (some d ∷ map value rs)
-    go true h =
-        ap (λ (x : ℤ). some x ∷ differences (z +ℤ d) (map value (addUp (z +ℤ d) rs e .readings))) (taken-off z d)
-        ∙ ap (λ (l : List (Option ℤ)). some d ∷ l) h
-    go false h = refl
-
--- ---- a column
+use Rattle.salvage.proofs.Summed.{sums-back}
 
 module _ (s : List ℕ) where
   pub all-differences : (r : Survey) → r ≡ surveyOf (deltaTrace s) → rewrittenAs values.Differences s (r .readings) ≡ deltaBytes (map value (deltaTrace s .readings))

@@ -28,7 +28,7 @@ use Rattle.salvage.proofs.Mended.{Mends, mended}
 
 -- ---- what was kept is certain
 
-prefix-map : {R B : Type 0} (f : R → B) (xs ys : List R) → Prefix xs ys → Prefix (map f xs) (map f ys)
+pub prefix-map : {R B : Type 0} (f : R → B) (xs ys : List R) → Prefix xs ys → Prefix (map f xs) (map f ys)
 prefix-map f xs ys h = record { rest = map f (h .rest); split = ap (map f) (h .split) ∙ map-append f xs (h .rest) }
 
 pub kept-certain : {R B : Type 0} (read : List ℕ → Trace R) (f : R → B) → Lasting read → (s : List ℕ) → Certain read f s (map f (read s .readings))

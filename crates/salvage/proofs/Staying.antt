@@ -13,7 +13,7 @@ use lib.Seq.{drop-append-le, take-append-le}
 use borrow.Author.Tests.{leb-true, le-leb}
 use Rattle.leb128.specs.Got.{Got, got, bad}
 use Rattle.leb128.specs.Digits.{Digits, whole, broken, more, ended, digits}
-use Rattle.leb128.specs.Read.{unsigned, signed, u64At, i64At}
+use Rattle.leb128.specs.Read.{unsigned, signed, narrow, u32At, u64At, i64At}
 use Rattle.leb128.proofs.Refusals.{u64-none, i64-none}
 use Rattle.encoding.specs.Head.{Head, amiss, judged, absentHead, begun, headAt}
 use Rattle.utf8.specs.Utf8.{isUtf8}
@@ -106,6 +106,15 @@ i64-stays s u p = elim (decLt (length s) p) [
   | yes l ↦ stays-none (i64At s p) (i64At (s ++ u) p) (length s) (i64-none s p (omega arith))
   | no l ↦ i64-within s u p (omega arith)
 ]
+
+-- a number of 32 bits, which is judged for 2 behind all else
+pub u32-stays : Staying u32At
+unfolding u32At
+u32-stays s u p = go (u64At s p) (u64-stays s u p)
+  where
+    go : (g : Got ℕ) → Stays g (u64At (s ++ u) p) → Stays (narrow p g) (narrow p (u64At (s ++ u) p))
+    go (got v q) h = rw h (stays-self (narrow p (got v q)))
+    go (bad number place) h = λ f. ap (narrow p) (h f)
 
 -- ---- names: a name that was cut is 1, and 20 is judged of whole names
 

@@ -1,3 +1,4 @@
 pub mod Fresh
 pub mod Kept
 pub mod Salvage
+pub mod Way
