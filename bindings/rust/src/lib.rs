@@ -1,6 +1,7 @@
 //! Safe Rust over the boundary of Grundavok (`include/grundavok.h`): slices in, lists out, names as in the crate automerge.
 //!
-//! Any bytes, lists and ranges may go to any function. What is refused gets a [`Refusal`], the number and the place of documents 01 and 02.
+//! Any bytes, lists and ranges may go to any function. What is refused gets a [`Refusal`], a number and a place: the header lists them,
+//! and `docs/FORMAT.md` has the rules and the order of checks of every call.
 //!
 //! A few bytes can stand for 4,294,967,295 readings. A call that gives a list therefore takes the most readings that the caller will hold, and is
 //! refused with 9 where there are more; `readings` of [`rle`], [`delta`] and [`boolean`] gives them one by one and holds none.

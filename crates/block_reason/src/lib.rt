@@ -1,11 +1,7 @@
 // Why a column of a block was refused: its table's reason, or the column's own.
 ghost use mathlib.Core.Path.{_≡_};
-ghost use Prim.Native.Nat.{_+_, _≤_};
-ghost use lib.ListN.{length};
 ghost use Rattle.column_part.specs.Part.{partAt};
-ghost use Rattle.column_specification.specs.Specification.{typeOf};
 ghost use Rattle.reason.specs.Cases.{toldOf};
-ghost use Rattle.reason.specs.Columns.{columnReason};
 ghost use Rattle.block_reason.specs.Cases.{whyOf};
 ghost use Rattle.block_reason.specs.Why.{ofColumn, ofPart, blockReason};
 use column_part::locate;

@@ -1,6 +1,7 @@
 -- DEMAND 3 OF THE CALLS. "An edit of one column depends on nothing inside the others, which keep their bytes; an accepted edit writes the
--- encoding of the old list with the range replaced." From what the public edits promise (`OptionalSpliced`, `BooleanSpliced`) and what every slice
--- of the code is (`Lent`): `integer-demand-3`, `delta-demand-3` and `boolean-demand-3`, proved once over the kind of column. Assumes nothing.
+-- encoding of the old list with the range replaced." From what the public edits promise (`OptionalSpliced`, `BooleanSpliced`, `TextSpliced`) and
+-- what every slice of the code is (`Lent`): `integer-demand-3`, `delta-demand-3`, `boolean-demand-3`, `text-demand-3`, proved once over the kind of
+-- column. Assumes nothing.
 use Prim.Native.Nat.{ℕ, _≤_, _<_}
 use mathlib.Core.Path.{_≡_, refl, sym, ap, _∙_}
 use mathlib.Core.List.{List, [], map}
