@@ -6,7 +6,7 @@ use mathlib.Core.List.{List, [], _++_}
 use mathlib.Core.Option.{Option, none, some}
 use mathlib.Core.Bool.{Bool, true, false, cond}
 use native.Mathlib.Omega.{arith}
-use lib.Seq.{drop-drop, length-take-le}
+use lib.Seq.{drop-drop, drop-at, length-take-le}
 use lib.ListN.{length, getD, set, take, drop, length-append, length-take, length-drop, take-append-drop}
 use lib.Dec.{ltb, leb}
 use borrow.Author.Tests.{ltb-true, leb-true, ltb-false}
@@ -25,7 +25,7 @@ use Rattle.block_frame.proofs.Tables.{Below, table-fills, table-back}
 use Rattle.slots.specs.Splice.{spliced}
 use Rattle.splice.specs.Kind.{Kind}
 use Rattle.splice.specs.Edit.{Edited, stop, late, accepted, endIn, below, serves, refuses, finished, editList, readBy, editColumn, editIn, edited}
-use Rattle.splice.specs.Edit.{answered, slotsLeft}
+use Rattle.splice.specs.Edit.{answered, slotsLeft, outLeft}
 use Rattle.splice.specs.declared.End.{End}
 use Rattle.splice.proofs.Planning.{in-order}
 use Rattle.splice.proofs.Refusing.{refuses-by}
@@ -284,6 +284,22 @@ pub alike-slots : {A B : Type 0} {K : Kind A} {s s′ specs lens : List ℕ} {po
 alike-slots z f v (both-stop number place) = refl
 alike-slots z f v (both-late number place old xs) = refl
 alike-slots z f v (both-accepted old xs block block′ a) = refl
+
+-- and the same in the same output: behind the new block, and after a refusal all of it
+pub alike-behind : {A : Type 0} {K : Kind A} {s s′ specs lens : List ℕ} {position : ℕ} {e e′ : Edited A} (out : List ℕ)
+    → Alike K s s′ specs lens position e e′ → drop (answered e .len) (outLeft e out) ≡ drop (answered e′ .len) (outLeft e′ out)
+alike-behind out (both-stop number place) = refl
+alike-behind out (both-late number place old xs) = refl
+alike-behind out (both-accepted old xs block block′ a) =
+    drop-at block (drop (length block) out) (length block) refl
+    ∙ ap (λ (n : ℕ). drop n out) (a .size)
+    ∙ sym (drop-at block′ (drop (length block′) out) (length block′) refl)
+
+pub alike-refused : {A : Type 0} {K : Kind A} {s s′ specs lens : List ℕ} {position : ℕ} {e e′ : Edited A} (out : List ℕ)
+    → Alike K s s′ specs lens position e e′ → (answered e .number ≡ 0 → ⊥) → outLeft e out ≡ outLeft e′ out
+alike-refused out (both-stop number place) h = refl
+alike-refused out (both-late number place old xs) h = refl
+alike-refused out (both-accepted old xs block block′ a) h = absurd (h refl)
 
 no-row : {A : Type 0} (K : Kind A) (s specs lens : List ℕ) (next position start : ℕ) (end : End) (given : Answer) (new : List A) (slots room : ℕ)
     → parse s ≡ tab specs lens next → ltb position (length specs) ≡ false → edited K s position start end given new slots room ≡ stop 16 0
