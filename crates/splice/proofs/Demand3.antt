@@ -12,6 +12,7 @@ use lib.ListN.{length, getD, set, take, drop}
 use lib.Seq.{take-at, drop-at}
 use borrow.Author.Tests.{lt-ltb, eq-eqb}
 use Rattle.leb128.specs.Answer.{Answer}
+use Rattle.encoding.specs.Limit.{limit}
 use Rattle.encoding.specs.Walk.{sound}
 use Rattle.encoding.specs.Given.{badFlag, slotList}
 use Rattle.encoding.proofs.Faults.{Numbered}
@@ -32,7 +33,7 @@ use Rattle.splice.specs.Lent.{Lent}
 use Rattle.splice.specs.declared.Spliced.{Spliced}
 use Rattle.splice.specs.declared.End.{End}
 use Rattle.splice.proofs.Isolated.{Alike, both-stop, both-late, both-accepted, alike, alike-answer, alike-slots, alike-behind, alike-refused, OnlyElsewhere}
-use Rattle.splice.proofs.Isolated.{accepted-right, Kept, accepted-kept}
+use Rattle.splice.proofs.Isolated.{Right, accepted-right, Kept, accepted-kept}
 use Rattle.splice.proofs.Numbered.{SomeStop, SomeRefused, optional-some, boolean-some, text-some, integer-numbered, text-numbered, edited-some}
 
 -- ---- what the demand speaks of
@@ -55,8 +56,9 @@ rangeEnd K s position end = endIn end (length (oldList K s position))
 abbrev pub newList : {A : Type 0} → Kind A → List ℕ → ℕ → ℕ → End → List A → List A
 newList K s position start end new = spliced (oldList K s position) start (rangeEnd K s position end) new
 
--- the third sentence. The old list was read soundly, and the range lies within it; the new column is the encoding of the new list; the output
--- begins with the block whose columns are the old ones with that one in its place, and is as it was behind it; and the answer is that block's
+-- the third sentence. The old list was read soundly, the range lies within it, and the new list within the limit; the new column is the encoding of
+-- the new list; the output begins with the block whose columns are the old ones with that one in its place, and is as it was behind it; and the answer
+-- is that block's
 pub record Writes {A : Type 0} (K : Kind A) (s : List ℕ) (position start : ℕ) (end : End) (new : List A) (out out′ : List ℕ) (r : Spliced)
     : Type 0 where
   pub specs : List ℕ
@@ -67,6 +69,7 @@ pub record Writes {A : Type 0} (K : Kind A) (s : List ℕ) (position start : ℕ
   pub reads : K .reads (columnOf s position) .ending ≡ sound
   pub ordered : start ≤ rangeEnd K s position end
   pub within : rangeEnd K s position end ≤ length (oldList K s position)
+  pub few : length (newList K s position start end new) ≤ limit
   pub column : columnOf (blockOf r out′) position ≡ K .writes (newList K s position start end new)
   pub block : blockOf r out′ ≡ blockBytes specs (set (columnsOf s) position (K .writes (newList K s position start end new)))
   pub behind : drop (r .len) out′ ≡ drop (r .len) out
@@ -104,16 +107,16 @@ pub record DemandThree {A S G : Type 0} (K : Kind A) (position start : ℕ) (end
 -- ---- an edit that is answered with number 0 is accepted
 
 -- what its answer and output say of it
-record Accepted {A : Type 0} (e : Edited A) (out out′ : List ℕ) (r : Spliced) : Type 0 where
-  old : ℕ
-  xs : List A
-  new : List ℕ
-  is : e ≡ accepted old xs new
-  block : blockOf r out′ ≡ new
-  behind : drop (r .len) out′ ≡ drop (r .len) out
-  answer : r ≡ acceptance new
+pub record Accepted {A : Type 0} (e : Edited A) (out out′ : List ℕ) (r : Spliced) : Type 0 where
+  pub old : ℕ
+  pub xs : List A
+  pub new : List ℕ
+  pub is : e ≡ accepted old xs new
+  pub block : blockOf r out′ ≡ new
+  pub behind : drop (r .len) out′ ≡ drop (r .len) out
+  pub answer : r ≡ acceptance new
 
-is-accepted : {A : Type 0} (e : Edited A) (out out′ : List ℕ) (r : Spliced) → SomeStop e → r ≡ answered e → out′ ≡ outLeft e out → r .number ≡ 0
+pub is-accepted : {A : Type 0} (e : Edited A) (out out′ : List ℕ) (r : Spliced) → SomeStop e → r ≡ answered e → out′ ≡ outLeft e out → r .number ≡ 0
     → Accepted e out out′ r
 is-accepted (stop number place) out out′ r h a o z = absurd (omega (arith, ap (λ (x : Spliced). x .number) a))
 is-accepted (late number place old xs) out out′ r h a o z = absurd (omega (arith, ap (λ (x : Spliced). x .number) a))
@@ -162,34 +165,45 @@ module _ {A : Type 0} (K : Kind A) (s : List ℕ) (position start : ℕ) (end : 
   run-keeps : Lent s → Lent out → (j : ℕ) → (j ≡ position → ⊥) → columnOf (blockOf r out′) j ≡ columnOf s j
   run-keeps p q j d = ap (λ (b : List ℕ). columnOf b j) (a .block) ∙ run-kept p q .others j d
 
+  run-right : Right K s (has-table .specs) (has-table .lens) (has-table .next) position start end new (length out) (a .old) (a .xs) (a .new)
+  run-right =
+      let t = has-table in
+      accepted-right K s (t .specs) (t .lens) (t .next) position start end new (length out) slots given (a .old) (a .xs) (a .new) (t .is) (a .is)
+
+  run-column : columnOf s position ≡ take (getD (has-table .lens) position 0) (drop (startOf (has-table .lens) (has-table .next) position) s)
+  run-column = let t = has-table in part-is s (t .specs) (t .lens) (t .next) position (t .is) (run-right .served)
+
+  run-old : length (oldList K s position) ≡ a .old
+  run-old = ap (λ (x : List ℕ). length (K .reads x .readings)) run-column ∙ sym (run-right .size)
+
+  -- the list that it comes to
+  pub run-list : a .xs ≡ newList K s position start end new
+  run-list =
+      run-right .list
+      ∙ ap (λ (x : List ℕ). spliced (K .reads x .readings) start (endIn end (a .old)) new) (sym run-column)
+      ∙ ap (λ (k : ℕ). spliced (oldList K s position) start (endIn end k) new) (sym run-old)
+
   run-writes : Lent s → Lent out → Writes K s position start end new out out′ r
   unfolding newBlock
   run-writes p q =
       let t = has-table in
-      let w =
-      accepted-right K s (t .specs) (t .lens) (t .next) position start end new (length out) slots given (a .old) (a .xs) (a .new) (t .is) (a .is) in
-      let c : columnOf s position ≡ take (getD (t .lens) position 0) (drop (startOf (t .lens) (t .next) position) s) =
-      part-is s (t .specs) (t .lens) (t .next) position (t .is) (w .served) in
-      let n : length (oldList K s position) ≡ a .old = ap (λ (x : List ℕ). length (K .reads x .readings)) c ∙ sym (w .size) in
-      let l : a .xs ≡ newList K s position start end new =
-      w .list
-      ∙ ap (λ (x : List ℕ). spliced (K .reads x .readings) start (endIn end (a .old)) new) (sym c)
-      ∙ ap (λ (k : ℕ). spliced (oldList K s position) start (endIn end k) new) (sym n) in
+      let w = run-right in
       record {
         specs = t .specs;
         lens = t .lens;
         next = t .next;
         table = t .is;
         there = w .served;
-        reads = ap (λ (x : List ℕ). K .reads x .ending) c ∙ w .sound;
-        ordered = rw n (w .ordered);
-        within = rw n (w .within);
-        column = ap (λ (b : List ℕ). columnOf b position) (a .block) ∙ run-kept p q .chosen ∙ ap (K .writes) l;
+        reads = ap (λ (x : List ℕ). K .reads x .ending) run-column ∙ w .sound;
+        ordered = rw run-old (w .ordered);
+        within = rw run-old (w .within);
+        few = rw (← run-list) (w .few);
+        column = ap (λ (b : List ℕ). columnOf b position) (a .block) ∙ run-kept p q .chosen ∙ ap (K .writes) run-list;
         block =
             a .block ∙ w .block-is
             ∙ ap (λ (x : List (List ℕ)). blockBytes (t .specs) (set x position (K .writes (a .xs))))
             (sym (columns-are s (t .specs) (t .lens) (t .next) (t .is)))
-            ∙ ap (λ (x : List A). blockBytes (t .specs) (set (columnsOf s) position (K .writes x))) l;
+            ∙ ap (λ (x : List A). blockBytes (t .specs) (set (columnsOf s) position (K .writes x))) run-list;
         behind = a .behind;
         answer = a .answer ∙ ap acceptance (sym (a .block));
       }
