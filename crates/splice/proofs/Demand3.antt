@@ -32,7 +32,8 @@ use Rattle.splice.specs.Contract.{slotIn, flagIn, itself, startsIn, leng
 use Rattle.splice.specs.Lent.{Lent}
 use Rattle.splice.specs.declared.Spliced.{Spliced}
 use Rattle.splice.specs.declared.End.{End}
-use Rattle.splice.proofs.Isolated.{Alike, both-stop, both-late, both-accepted, alike, alike-answer, alike-slots, alike-behind, alike-refused, OnlyElsewhere}
+use Rattle.splice.proofs.Isolated.{Alike, both-stop, both-late, both-accepted, alike, OnlyElsewhere}
+use Rattle.splice.proofs.Isolated.{alike-answer, alike-slots, alike-behind, alike-refused}
 use Rattle.splice.proofs.Isolated.{Right, accepted-right, Kept, accepted-kept}
 use Rattle.splice.proofs.Numbered.{SomeStop, SomeRefused, optional-some, boolean-some, text-some, integer-numbered, text-numbered, edited-some}
 

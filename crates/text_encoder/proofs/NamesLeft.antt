@@ -56,7 +56,8 @@ module _ (xs : List (Option (List ℕ))) (fits : ListFits textE xs) (few : lengt
       ∙ omega (arith, n, written xs fits few .few, length-replicate {A = ℕ} (length xs - length (map startOf (readBack xs))) 0)
 
   -- as many readings as names: nothing is padded
-  plain : anyPresent xs ≡ true → (f : Reading (List ℕ) → ℕ) → map f (readBack xs) ++ replicate (length xs - length (map f (readBack xs))) 0 ≡ map f (readBack xs)
+  plain : anyPresent xs ≡ true → (f : Reading (List ℕ) → ℕ)
+      → map f (readBack xs) ++ replicate (length xs - length (map f (readBack xs))) 0 ≡ map f (readBack xs)
   plain e f =
       let n : length (readBack xs) ≡ length xs = sym (length-map (readBack xs) value) ∙ ap length (text-trip xs e fits few .0) in
       let m : length xs - length (map f (readBack xs)) ≡ 0 = omega (arith, length-map (readBack xs) f) in
