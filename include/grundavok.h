@@ -392,7 +392,8 @@ grundavok_next_u8 grundavok_boolean_next(const uint8_t *column, size_t column_le
  *
  * (Behind the last reading of a piece one more sum may leave int64_t: none is formed here.) The readings of the pieces in order are those of `next`,
  * and so are the end and the refusals, 24 too; a sum that leaves int64_t inside a run is refused at the call behind the readings that come before
- * it. A call costs the bytes that it passes, whatever the counts say. Both kinds of call may be made by turns with one cursor. */
+ * it. A call costs the bytes that it passes, whatever the counts say, and from a new cursor no more calls give readings than the column has bytes. Both
+ * kinds of call may be made by turns with one cursor. */
 grundavok_piece_u64 grundavok_rle_piece(const uint8_t *column, size_t column_len, grundavok_rle_cursor *cursor);
 grundavok_piece_i64 grundavok_delta_piece(const uint8_t *column, size_t column_len, grundavok_delta_cursor *cursor);
 grundavok_piece_u8 grundavok_boolean_piece(const uint8_t *column, size_t column_len, grundavok_boolean_cursor *cursor);

@@ -17,7 +17,7 @@ use Rattle.encoding.proofs.Lists.{cond-by}
 use Rattle.encoding.proofs.Walking.{next-eq}
 use Rattle.cursor.specs.Steps.{gives, calls, said, nth, onto, ready, drawn}
 use Rattle.cursor.proofs.Stepping.{follows, only, Draws, says, Entering, Holds, keeps, ready-some, ready-none, draws, ready-has}
-use Rattle.cursor.proofs.Pieces.{Gives}
+use Rattle.cursor.proofs.Pieces.{Gives, weight, some-one, some-left}
 use Rattle.cursor.proofs.Agreeing.{Agree, agree-on, u64-reads, drawn-alike}
 use Rattle.boolean_decoder.specs.Turns.{Turn, turn, counted, turnAt, turnsFrom, boolTrace}
 use Rattle.boolean_decoder.proofs.Turning.{turned, turns-on}
@@ -147,21 +147,30 @@ module _ (s : List ℕ) where
   unfolding turnStep turnReady oneTurn
   turn-same at had left flag l = ap (drawn oneTurn) (ready-some entering (turning at had left flag) l)
 
-  -- behind a step that gives r: within the column; fewer than b are left, where no more were and no count has more; and each is r
-  abbrev pub TurnGiven : ℕ → ℕ → TurnCursor → Type 0
-  TurnGiven b r d = (d .at ≤ length s) × (d .left < b) × (byteOf (d .flag) ≡ r)
+  -- behind a step from c that gives r: within the column; fewer than b are left, where no more were and no count has more; each is r; and where a
+  -- piece takes them all the weight falls
+  abbrev pub TurnGiven : ℕ → TurnCursor → ℕ → TurnCursor → Type 0
+  TurnGiven b c r d =
+      (d .at ≤ length s) × (d .left < b) × (byteOf (d .flag) ≡ r) × (length s - d .at < weight (length s) (c .at) (c .left))
 
-  pub turn-given : (b : ℕ) (c : TurnCursor) → limit ≤ b → c .at ≤ length s → c .left ≤ b → Gives (TurnGiven b) (turnStep s c)
+  pub turn-given : (b : ℕ) (c : TurnCursor) → limit ≤ b → c .at ≤ length s → c .left ≤ b → Gives (TurnGiven b c) (turnStep s c)
   unfolding turnStep turnReady oneTurn
   turn-given b c m w l = go (turnReady s c) refl
     where
-      go : (x : Next TurnCursor) → turnReady s c ≡ x → Gives (TurnGiven b) (drawn oneTurn x)
+      P : TurnCursor → Type 0
+      P x = (x .at ≤ length s) × (x .left ≤ b) × (weight (length s) (x .at) (x .left) ≤ weight (length s) (c .at) (c .left))
+
+      into : (x y : TurnCursor) → P x → enterTurn s (x .at) (x .had) (x .flag) ≡ on y → P y
+      into x y p h =
+          let k = enter-beyond (x .at) (x .had) (x .flag) y h in
+          (k .1, omega (arith, enter-within (x .at) (x .had) (x .flag) y h), omega (arith, p .2, k .0, k .1, some-one (y .left)))
+
+      go : (x : Next TurnCursor) → turnReady s c ≡ x → Gives (TurnGiven b c) (drawn oneTurn x)
       go over e = tt
       go (on d) e =
-          let h = ready-has entering (λ x. (x .at ≤ length s) × (x .left ≤ b))
-          (λ x y p h. (enter-beyond (x .at) (x .had) (x .flag) y h .1, omega (arith, enter-within (x .at) (x .had) (x .flag) y h))) c d (w, l) e in
+          let h = ready-has entering P into c d (w, l, omega arith) e in
           let p = h .0 in
-          (p .0, omega (arith, p .1, h .1), refl)
+          (p .0, omega (arith, p .1, h .1), refl, omega (arith, p .2, some-left (d .left) (h .1)))
       go (off number place) e = tt
 
   -- ---- the step as code takes it: the present count, where some of it is left; else the next one, and what is ready from there

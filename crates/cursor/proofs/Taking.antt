@@ -1,6 +1,7 @@
 -- Laws of pieces that a host takes, over any state and any answers. A row of states, each behind the one before, is a piece (`row`). The pieces in
 -- order have the readings that single calls give (`each-reading`), and lead where they lead (`leads-to`). So where single calls say a trace, the
--- pieces have all its readings, each once (`all-given`), and then its ending, however often asked (`then-ending`). Assumes nothing.
+-- pieces have all its readings, each once (`all-given`), and the piece behind the last one has its ending (`then-ending`). Where a weight falls from
+-- piece to piece, no more pieces than it have readings (`few-pieces`). Assumes nothing.
 use Prim.Native.Nat.{ℕ, zero, suc, _+_, _≤_, _<_, min}
 use mathlib.Core.Path.{_≡_, refl, sym, _∙_, ap}
 use mathlib.Core.Bool.{Bool, true, false}
@@ -121,9 +122,49 @@ module _ {K B : Type 0} (call : K → K) (answer : K → B) (times : K → ℕ) 
     pub all-given : (n : ℕ) → most ≤ n → had n ≡ most
     all-given n l = omega (arith, had-most n, had-least n)
 
-    -- and behind them the ending
-    pub then-ending : (n : ℕ) → most ≤ n → (answer (after past n k) ≡ told (ended (t .ending))) × (times (after past n k) ≡ 0)
+    -- so have those before a piece that has none
+    pub none-left : (n : ℕ) → gives (answer (after past n k)) ≡ false → had n ≡ most
+    none-left n e = go (ltb (had n) most) refl
+      where
+        go : (b : Bool) → ltb (had n) most ≡ b → had n ≡ most
+        go true l =
+            let g : gives (answer (after past n k)) ≡ true =
+            ap (λ (c : K). gives (answer c)) (leads-to n) ∙ ap gives (says (had n)) ∙ within-gives (had n) (ltb-true (had n) most l) in
+            let h : true ≡ false = sym g ∙ e in
+            let z : _≡_ {A = ℕ} 0 1 = cc in
+            absurd (omega arith)
+        go false l = let h = ltb-false (had n) most l in omega (arith, had-most n)
+
+    -- and where those before it have all the readings, a piece is the ending
+    pub then-ending : (n : ℕ) → had n ≡ most → (answer (after past n k) ≡ told (ended (t .ending))) × (times (after past n k) ≡ 0)
     then-ending n l =
         let e : answer (after past n k) ≡ told (ended (t .ending)) =
-        ap answer (leads-to n) ∙ says (had n) ∙ ap told (nth-ending t (had n) (omega (arith, all-given n l))) in
+        ap answer (leads-to n) ∙ says (had n) ∙ ap told (nth-ending t (had n) (omega arith)) in
         (e, none-given (after past n k) (ap gives e ∙ ended-not (t .ending)))
+
+-- ---- how many pieces have readings
+
+module _ {K : Type 0} (past : K → K) (gives : K → Bool) (weight : K → ℕ) (stays : (k : K) → gives k ≡ false → past k ≡ k)
+    (some-weight : (k : K) → gives k ≡ true → 0 < weight k)
+    (falls : (k : K) → gives k ≡ true → gives (past k) ≡ true → weight (past k) < weight k) where
+  -- behind an ending there is no reading
+  gave-before : (n : ℕ) (k : K) → gives (after past (suc n) k) ≡ true → gives (after past n k) ≡ true
+  gave-before n k h = go (gives (after past n k)) refl
+    where
+      go : (b : Bool) → gives (after past n k) ≡ b → gives (after past n k) ≡ true
+      go true e = e
+      go false e =
+          let z : true ≡ false = sym h ∙ ap gives (after-last past n k ∙ stays (after past n k) e) ∙ e in
+          let y : _≡_ {A = ℕ} 0 1 = cc in
+          absurd (omega arith)
+
+  all-fall : (n : ℕ) (k : K) → gives (after past n k) ≡ true → n + weight (after past n k) ≤ weight k
+  unfolding after
+  all-fall zero k h = omega arith
+  all-fall (suc n) k h =
+      let g = gave-before n k h in
+      let f = falls (after past n k) g (sym (ap gives (after-last past n k)) ∙ h) in
+      omega (arith, f, ap weight (after-last past n k), all-fall n k g)
+
+  pub few-pieces : (n : ℕ) (k : K) → gives (after past n k) ≡ true → n < weight k
+  few-pieces n k h = omega (arith, all-fall n k h, some-weight (after past n k) h)

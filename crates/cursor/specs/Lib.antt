@@ -1,5 +1,4 @@
 pub mod Cursor
 pub mod Kept
-pub mod Pieces
 pub mod Steps
 pub mod Taking

@@ -1,6 +1,7 @@
 -- THE THEOREMS of pieces for boolean columns. From any state so many steps as a piece has times answer its reading each, and leave the state that it
 -- leaves (`stands`). So from a new state the pieces' readings in order are what the trace of the column has to say (`nth-reading`): all of them
--- (`all-given`), and then its ending, however often asked (`then-ending`). And what the code needs of a step. Assumes nothing.
+-- (`all-given`), in no more pieces than the column has bytes (`few-given`), and the piece behind them is its ending, however often asked
+-- (`then-ending`). And what the code needs of a step. Assumes nothing.
 use Prim.Native.Nat.{ℕ, zero, suc, _+_, _-_, _^_, _≤_, _<_}
 use mathlib.Core.Path.{_≡_, refl, sym, _∙_, ap, subst}
 use mathlib.Core.Bool.{Bool, true, false}
@@ -13,7 +14,7 @@ use Rattle.cursor.specs.Steps.{Stepped, ends, gives, said, ended, nth}
 use Rattle.cursor.specs.Kept.{leaves, after}
 use Rattle.cursor.specs.Taking.{Stands, readingsIn}
 use Rattle.cursor.proofs.Keeping.{checked-by}
-use Rattle.cursor.proofs.Pieces.{Gives}
+use Rattle.cursor.proofs.Pieces.{weight, Gives}
 use Rattle.cursor.proofs.Taking as taking
 use Rattle.boolean_decoder.specs.Turns.{boolTrace}
 use Rattle.boolean_cursor.specs.TurnCursor.{TurnCursor, turning, byteOf, turnStep}
@@ -48,13 +49,13 @@ took-counted s k {r} {flag} e h m = took s k e h ∙ ap (taken (past (r .cursor)
 
 module _ (s : List ℕ) (k : BooleanCursor) (b : ℕ) (m : limit ≤ b) (l : k .left ≤ b) where
   by-step : (P : BooleanStepped → Type 0) → ((e : Ending) → P (told k (ends e)))
-      → ((r : ℕ) (d : TurnCursor) → k .len ≡ length s → TurnGiven s b r d → P (told k (gives r d))) → P (stepOf s k)
+      → ((r : ℕ) (d : TurnCursor) → k .len ≡ length s → TurnGiven s b (cursorOf k) r d → P (told k (gives r d))) → P (stepOf s k)
   unfolding stepOf
   by-step P f g =
       checked-by (k .len) (k .at) s (turnStep s (cursorOf k)) (λ x. P (told k x))
       (λ e w. go (turnStep s (cursorOf k)) e (turn-given s b (cursorOf k) m w l)) (f (fault 24 0))
     where
-      go : (x : Stepped ℕ TurnCursor) → k .len ≡ length s → Gives (TurnGiven s b) x → P (told k x)
+      go : (x : Stepped ℕ TurnCursor) → k .len ≡ length s → Gives (TurnGiven s b (cursorOf k)) x → P (told k x)
       go (ends e) w h = f e
       go (gives r d) w h = g r d w h
 
@@ -70,7 +71,7 @@ left-fits s k f e = subst P (sym e) (by-step s k (2 ^ 64 - 1) (omega arith) (ome
     over sound h = let z : _≡_ {A = ℕ} 0 1 = cc in absurd (omega arith)
     over (fault number place) h = let z : _≡_ {A = ℕ} 0 1 = cc in absurd (omega arith)
 
-    on : (r : ℕ) (d : TurnCursor) → k .len ≡ length s → TurnGiven s (2 ^ 64 - 1) r d → P (told k (gives r d))
+    on : (r : ℕ) (d : TurnCursor) → k .len ≡ length s → TurnGiven s (2 ^ 64 - 1) (cursorOf k) r d → P (told k (gives r d))
     on r d w g h = omega (arith, g .1)
 
 -- ---- how many readings a piece has
@@ -174,9 +175,42 @@ module _ (s : List ℕ) where
       over sound h = taking.none-stands call answers k (λ i. answer.End)
       over (fault number place) h = taking.none-stands call answers k (λ i. answer.Refused number place)
 
-      on : (r : ℕ) (d : TurnCursor) → k .len ≡ length s → TurnGiven s (k .left + limit) r d → P (told k (gives r d))
+      on : (r : ℕ) (d : TurnCursor) → k .len ≡ length s → TurnGiven s (k .left + limit) (cursorOf k) r d → P (told k (gives r d))
       on r d w g =
           subst (λ (r : ℕ). P (told k (gives r d))) (g .2) (λ h. same-stands k w (d .at) (d .had) (d .left) (d .flag) (g .0) h)
+
+  -- ---- a piece takes bytes or ends a count, and an ending leaves the state
+
+  abbrev weightOf : BooleanCursor → ℕ
+  weightOf k = weight (length s) (k .at) (k .left)
+
+  piece-falls : (k : BooleanCursor) → isReading (answers k) ≡ true → weightOf (pieceOf s k .cursor) < weightOf k
+  unfolding pieceOf leaves said
+  piece-falls k = by-step s k (k .left + limit) (omega arith) (omega arith) P over on
+    where
+      P : BooleanStepped → Type 0
+      P x = isReading (x .answer) ≡ true → weightOf (tookOf (x .cursor) (x .answer) .cursor) < weightOf k
+
+      over : (e : Ending) → P (told k (ends e))
+      over sound h = let z : _≡_ {A = ℕ} 0 1 = cc in absurd (omega arith)
+      over (fault number place) h = let z : _≡_ {A = ℕ} 0 1 = cc in absurd (omega arith)
+
+      on : (r : ℕ) (d : TurnCursor) → k .len ≡ length s → TurnGiven s (k .left + limit) (cursorOf k) r d → P (told k (gives r d))
+      on r d w g h = omega (arith, g .3)
+
+  piece-stays : (k : BooleanCursor) → isReading (answers k) ≡ false → pieceOf s k .cursor ≡ k
+  unfolding pieceOf leaves said
+  piece-stays k = by-step s k (k .left + limit) (omega arith) (omega arith) P over on
+    where
+      P : BooleanStepped → Type 0
+      P x = isReading (x .answer) ≡ false → tookOf (x .cursor) (x .answer) .cursor ≡ k
+
+      over : (e : Ending) → P (told k (ends e))
+      over sound h = refl
+      over (fault number place) h = refl
+
+      on : (r : ℕ) (d : TurnCursor) → k .len ≡ length s → TurnGiven s (k .left + limit) (cursorOf k) r d → P (told k (gives r d))
+      on r d w g h = let z : _≡_ {A = ℕ} 0 1 = cc in absurd (omega arith)
 
   -- ---- pieces from a new state, one after the other
 
@@ -208,8 +242,22 @@ module _ (s : List ℕ) where
       taking.all-given call answers timesOf (λ k i. pieceOf s k .piece .answer) pastOf stands (newFor (length s)) (boolTrace s) answerFor (nth-answer s) isReading
       (λ r. refl) ended-not (some-given s) (none-given s) (all-read s)
 
-  -- "and then the end, however often asked", or "the refusal of the whole-column call, again at every later call"
-  pub then-ending : (n : ℕ) → length (boolTrace s .readings) ≤ n → pieceAt n ≡ record { answer = answerFor (ended (boolTrace s .ending)); times = 0 }
+  -- and so have as many as it has bytes: no more pieces have readings, whatever the counts
+  pub few-given : (n : ℕ) → length s ≤ n → hadBefore n ≡ length (boolTrace s .readings)
+  few-given n l =
+      taking.none-left call answers timesOf (λ k i. pieceOf s k .piece .answer) pastOf stands
+      (newFor (length s)) (boolTrace s) answerFor (nth-answer s) isReading (λ r. refl) ended-not (some-given s) (none-given s) (all-read s)
+      n (go (isReading (answers (after pastOf n (newFor (length s))))) refl)
+    where
+      go : (b : Bool) → isReading (answers (after pastOf n (newFor (length s)))) ≡ b → isReading (answers (after pastOf n (newFor (length s)))) ≡ false
+      go false e = e
+      go true e =
+          let m = taking.few-pieces pastOf (λ k. isReading (answers k)) weightOf piece-stays (λ k g. let f = piece-falls k g in omega arith)
+          (λ k g h. piece-falls k g) n (newFor (length s)) e in
+          absurd (omega arith)
+
+  -- "and then the end, however often asked", or "the refusal of the whole-column call, again at every later call": the piece behind the last reading
+  pub then-ending : (n : ℕ) → hadBefore n ≡ length (boolTrace s .readings) → pieceAt n ≡ record { answer = answerFor (ended (boolTrace s .ending)); times = 0 }
   then-ending n l =
       let k = after pastOf n (newFor (length s)) in
       let h = taking.then-ending call answers timesOf (λ k i. pieceOf s k .piece .answer) pastOf stands (newFor (length s)) (boolTrace s) answerFor (nth-answer s) isReading

@@ -1,7 +1,7 @@
 -- THE THEOREMS of pieces for delta columns. From any state so many steps as a piece has times answer its readings, each by the difference larger than
 -- the one before, and leave the state that it leaves (`stands`). So from a new state the pieces' readings in order are what the trace of the column has
--- to say (`nth-reading`): all of them (`all-given`), and then its ending, however often asked (`then-ending`). And what the code needs of a step.
--- Assumes nothing.
+-- to say (`nth-reading`): all of them (`all-given`), in no more pieces than the column has bytes (`few-given`), and the piece behind them is its ending,
+-- however often asked (`then-ending`). And what the code needs of a step. Assumes nothing.
 use Prim.Native.Nat.{ℕ, zero, suc, _+_, _-_, _^_, _≤_, _<_}
 use mathlib.Core.Path.{_≡_, refl, sym, _∙_, ap, subst}
 use mathlib.Core.Bool.{Bool, true, false, cond}
@@ -21,7 +21,7 @@ use Rattle.cursor.specs.Kept.{leaves, after}
 use Rattle.cursor.specs.Cursor.{Sort, same, literal, Cursor, cursor, step}
 use Rattle.cursor.specs.Taking.{Stands, readingsIn}
 use Rattle.cursor.proofs.Keeping.{checked-by}
-use Rattle.cursor.proofs.Pieces.{Gives, Again, Given, step-same, step-given}
+use Rattle.cursor.proofs.Pieces.{weight, Fallen, Gives, Again, Given, step-same, step-given}
 use Rattle.cursor.proofs.Taking as taking
 use Rattle.delta_decoder.specs.Difference.{i64E}
 use Rattle.delta_decoder.specs.Sums.{heldSum, deltaTrace}
@@ -36,7 +36,7 @@ use Rattle.delta_cursor.proofs.Calls.{kept-step, nth-answer}
 use Rattle.pieces.specs.Delta.{plusEach, heldEach, taken, past, repeating, standing, tookOf, pieceOf, readingOf, readingAt}
 use Rattle.pieces.specs.declared.delta.DeltaPiece.{DeltaPiece}
 use Rattle.pieces.specs.declared.delta.DeltaTaken.{DeltaTaken}
-use Rattle.pieces.proofs.Repeating.{held-most, held-each}
+use Rattle.pieces.proofs.Repeating.{held-most, held-each, held-over}
 
 -- a reading, and not an ending
 abbrev pub isReading : DeltaAnswer → Bool
@@ -44,6 +44,13 @@ isReading (answer.Present value) = true
 isReading answer.Absent = true
 isReading answer.End = false
 isReading (answer.Refused number place) = false
+
+-- a value
+abbrev pub isPresent : DeltaAnswer → Bool
+isPresent (answer.Present value) = true
+isPresent answer.Absent = false
+isPresent answer.End = false
+isPresent (answer.Refused number place) = false
 
 -- ---- the code
 
@@ -83,19 +90,22 @@ took s k {r} e h = ap (λ (r : DeltaStepped). tookOf (r .cursor) (r .answer)) (s
 
 module _ (s : List ℕ) (k : DeltaCursor) (b : ℕ) (m : limit ≤ b) (l : k .left ≤ b) where
   by-step : (P : DeltaStepped → Type 0) → ((e : Ending) → P (told k (ends e)))
-      → ((d : Cursor ℤ) → k .len ≡ length s → Given i64E i64-laws s b absent d → P (told k (gives absent (summing d (k .sum)))))
-      → ((x y : ℤ) (q : ℕ) (d : Cursor ℤ) → k .len ≡ length s → Given i64E i64-laws s b (present x q) d → P (told k (gives (present y q) (summing d y))))
+      → ((d : Cursor ℤ) → k .len ≡ length s → Given i64E i64-laws s b (cursorOf k .differences) absent d → P (told k (gives absent (summing d (k .sum)))))
+      → ((x y : ℤ) (q : ℕ) (d : Cursor ℤ) → k .len ≡ length s → Given i64E i64-laws s b (cursorOf k .differences) (present x q) d
+      → P (told k (gives (present y q) (summing d y))))
       → P (stepOf s k)
   unfolding stepOf deltaStep addStep summed
   by-step P f g h =
       checked-by (k .len) (k .at) s (deltaStep s (cursorOf k)) (λ x. P (told k x))
       (λ e w. go (step i64E s (cursorOf k .differences)) e (step-given i64E i64-laws s b (cursorOf k .differences) m w l)) (f (fault 24 0))
     where
-      sum : (x : ℤ) (q : ℕ) (d : Cursor ℤ) (o : Option ℤ) → k .len ≡ length s → Given i64E i64-laws s b (present x q) d → P (told k (summed q o d))
+      sum : (x : ℤ) (q : ℕ) (d : Cursor ℤ) (o : Option ℤ) → k .len ≡ length s → Given i64E i64-laws s b (cursorOf k .differences) (present x q) d
+          → P (told k (summed q o d))
       sum x q d none w i = f (fault 6 q)
       sum x q d (some y) w i = h x y q d w i
 
-      go : (x : Stepped (Reading ℤ) (Cursor ℤ)) → k .len ≡ length s → Gives (Given i64E i64-laws s b) x → P (told k (addStep (k .sum) x))
+      go : (x : Stepped (Reading ℤ) (Cursor ℤ)) → k .len ≡ length s → Gives (Given i64E i64-laws s b (cursorOf k .differences)) x
+          → P (told k (addStep (k .sum) x))
       go (ends e) w i = f e
       go (gives absent d) w i = g d w i
       go (gives (present x q) d) w i = sum x q d (heldSum (k .sum) x) w i
@@ -117,10 +127,12 @@ left-fits s k f e = subst P (sym e) (by-step s k (2 ^ 64 - 1) (omega arith) (ome
     over sound h = let z : _≡_ {A = ℕ} 0 1 = cc in absurd (omega arith)
     over (fault number place) h = let z : _≡_ {A = ℕ} 0 1 = cc in absurd (omega arith)
 
-    missing : (d : Cursor ℤ) → k .len ≡ length s → Given i64E i64-laws s (2 ^ 64 - 1) absent d → P (told k (gives absent (summing d (k .sum))))
+    missing : (d : Cursor ℤ) → k .len ≡ length s → Given i64E i64-laws s (2 ^ 64 - 1) (cursorOf k .differences) absent d
+        → P (told k (gives absent (summing d (k .sum))))
     missing d w g h = omega (arith, g .1, kept-left (k .len) (d .at) (d .had) (d .left) (d .sort) (k .sum))
 
-    on : (x y : ℤ) (q : ℕ) (d : Cursor ℤ) → k .len ≡ length s → Given i64E i64-laws s (2 ^ 64 - 1) (present x q) d → P (told k (gives (present y q) (summing d y)))
+    on : (x y : ℤ) (q : ℕ) (d : Cursor ℤ) → k .len ≡ length s → Given i64E i64-laws s (2 ^ 64 - 1) (cursorOf k .differences) (present x q) d
+        → P (told k (gives (present y q) (summing d y)))
     on x y q d w g h = omega (arith, g .1, kept-left (k .len) (d .at) (d .had) (d .left) (d .sort) y)
 
 -- ---- how many readings a piece has
@@ -326,7 +338,8 @@ module _ (s : List ℕ) where
           subst (λ (r : Reading ℤ). P (told k (gives absent (summing (cursor at had left (same r)) (k .sum))))) (sym a) (λ h. absent-stands k w at had left v (k .sum) h)
       none-in at had left literal w v a = λ h. single-stands k (keptAs (k .len) at had left literal (k .sum)) answer.Absent h
 
-      missing : (d : Cursor ℤ) → k .len ≡ length s → Given i64E i64-laws s (k .left + limit) absent d → P (told k (gives absent (summing d (k .sum))))
+      missing : (d : Cursor ℤ) → k .len ≡ length s → Given i64E i64-laws s (k .left + limit) (cursorOf k .differences) absent d
+          → P (told k (gives absent (summing d (k .sum))))
       missing d w g = none-in (d .at) (d .had) (d .left) (d .sort) w (g .0) (g .2)
 
       inside : (at had left : ℕ) (t : Sort ℤ) (x y : ℤ) (q : ℕ) → k .len ≡ length s → at ≤ length s → Again (present x q) t
@@ -335,8 +348,137 @@ module _ (s : List ℕ) where
           subst (λ (r : Reading ℤ). P (told k (gives (present y q) (summing (cursor at had left (same r)) y)))) (sym a) (λ h. repeat-stands k w at had left v x y q h)
       inside at had left literal x y q w v a = λ h. single-stands k (keptAs (k .len) at had left literal y) (answer.Present y) h
 
-      on : (x y : ℤ) (q : ℕ) (d : Cursor ℤ) → k .len ≡ length s → Given i64E i64-laws s (k .left + limit) (present x q) d → P (told k (gives (present y q) (summing d y)))
+      on : (x y : ℤ) (q : ℕ) (d : Cursor ℤ) → k .len ≡ length s → Given i64E i64-laws s (k .left + limit) (cursorOf k .differences) (present x q) d
+          → P (told k (gives (present y q) (summing d y)))
       on x y q d w g = inside (d .at) (d .had) (d .left) (d .sort) x y q w (g .0) (g .2)
+
+  -- ---- a piece takes bytes, ends a run, or is the last before 6; and an ending leaves the state
+
+  abbrev weightOf : DeltaCursor → ℕ
+  weightOf k = weight (length s) (k .at) (k .left)
+
+  -- inside a repeated run, where the next sum is not held
+  repeat-over : (at had left : ℕ) (x z : ℤ) (q : ℕ) → at ≤ length s → 0 < left → heldSum z x ≡ none
+      → isReading (answers (keptAs (length s) at had left (same (present x q)) z)) ≡ false
+  unfolding deltaStep addStep summed leaves said
+  repeat-over at had left x z q w l h =
+      let c = summing (cursor at had left (same (present x q))) z in
+      let d = cursor at had (left - 1) (same (present x q)) in
+      ap (λ (r : DeltaStepped). isReading (r .answer)) (kept-step s c w)
+      ∙ ap (λ (x : Stepped (Reading ℤ) (Cursor ℤ)). isReading (answerFor (said (addStep z x)))) (step-same i64E i64-laws s at had left (present x q) l)
+      ∙ ap (λ (o : Option ℤ). isReading (answerFor (said (summed q o d)))) h
+
+  -- what a piece leaves of a run that is not repeated
+  fallen-absent : (len at had left w : ℕ) (x : Sort ℤ) (z : ℤ) → Again absent x → Fallen (length s) w at left x
+      → weightOf (tookOf (keptAs len at had left x z) answer.Absent .cursor) < w
+  fallen-absent len at had left w (same absent) z a f = omega arith
+  fallen-absent len at had left w (same (present v p)) z a f = let y : _≡_ {A = ℕ} 0 1 = cc in absurd (omega arith)
+  fallen-absent len at had left w literal z a f = f
+
+  module _ (at had left : ℕ) (v : at ≤ length s) (x y : ℤ) (q w : ℕ) (f : length s - at < w) where
+    -- of one that is: nothing, or what 6 stands before
+    fallen-repeat : isReading (answers (repeating (keptAs (length s) at had left (same (present x q)) y) (answer.Present y) .cursor)) ≡ true
+        → weight (length s) at (left - heldEach y x left) < w
+    fallen-repeat g = go (left - heldEach y x left) refl
+      where
+        go : (n : ℕ) → left - heldEach y x left ≡ n → weight (length s) at n < w
+        go zero e = omega arith
+        go (suc n) e =
+            let z = repeat-over at had (left - heldEach y x left) x (plusEach y x (heldEach y x left)) q v (omega arith) (held-over x left y (omega arith)) in
+            let y : true ≡ false = sym g ∙ z in
+            let u : _≡_ {A = ℕ} 0 1 = cc in
+            absurd (omega arith)
+
+  piece-falls : (k : DeltaCursor) → isReading (answers k) ≡ true → isReading (answers (pieceOf s k .cursor)) ≡ true
+      → weightOf (pieceOf s k .cursor) < weightOf k
+  unfolding pieceOf leaves said
+  piece-falls k = by-step s k (k .left + limit) (omega arith) (omega arith) P over missing on
+    where
+      P : DeltaStepped → Type 0
+      P x =
+          isReading (x .answer) ≡ true → isReading (answers (tookOf (x .cursor) (x .answer) .cursor)) ≡ true
+          → weightOf (tookOf (x .cursor) (x .answer) .cursor) < weightOf k
+
+      over : (e : Ending) → P (told k (ends e))
+      over sound h g = let z : _≡_ {A = ℕ} 0 1 = cc in absurd (omega arith)
+      over (fault number place) h g = let z : _≡_ {A = ℕ} 0 1 = cc in absurd (omega arith)
+
+      missing : (d : Cursor ℤ) → k .len ≡ length s → Given i64E i64-laws s (k .left + limit) (cursorOf k .differences) absent d
+          → P (told k (gives absent (summing d (k .sum))))
+      missing d w i h g = fallen-absent (k .len) (d .at) (d .had) (d .left) (weightOf k) (d .sort) (k .sum) (i .2) (i .3)
+
+      inside : (at had left : ℕ) (t : Sort ℤ) (x y : ℤ) (q : ℕ) → k .len ≡ length s → at ≤ length s → Again (present x q) t
+          → Fallen (length s) (weightOf k) at left t → P (told k (gives (present y q) (summing (cursor at had left t) y)))
+      inside at had left (same r) x y q w v a f =
+          subst (λ (r : Reading ℤ). P (told k (gives (present y q) (summing (cursor at had left (same r)) y)))) (sym a)
+          (λ h g. fallen-repeat at had left v x y q (weightOf k) f
+          (subst (λ (n : ℕ). isReading (answers (repeating (keptAs n at had left (same (present x q)) y) (answer.Present y) .cursor)) ≡ true) w g))
+      inside at had left literal x y q w v a f = λ h g. f
+
+      on : (x y : ℤ) (q : ℕ) (d : Cursor ℤ) → k .len ≡ length s → Given i64E i64-laws s (k .left + limit) (cursorOf k .differences) (present x q) d
+          → P (told k (gives (present y q) (summing d y)))
+      on x y q d w i = inside (d .at) (d .had) (d .left) (d .sort) x y q w (i .0) (i .2) (i .3)
+
+  -- where a step gives there is something to take
+  some-weight : (k : DeltaCursor) → isReading (answers k) ≡ true → 0 < weightOf k
+  unfolding leaves said
+  some-weight k =
+      by-step s k (k .left + limit) (omega arith) (omega arith) P over (λ d w i h. least (d .at) (d .left) (d .sort) (i .3))
+      (λ x y q d w i h. least (d .at) (d .left) (d .sort) (i .3))
+    where
+      P : DeltaStepped → Type 0
+      P x = isReading (x .answer) ≡ true → 0 < weightOf k
+
+      over : (e : Ending) → P (told k (ends e))
+      over sound h = let z : _≡_ {A = ℕ} 0 1 = cc in absurd (omega arith)
+      over (fault number place) h = let z : _≡_ {A = ℕ} 0 1 = cc in absurd (omega arith)
+
+      least : (at left : ℕ) (x : Sort ℤ) → Fallen (length s) (weightOf k) at left x → 0 < weightOf k
+      least at left (same r) f = omega arith
+      least at left literal f = omega arith
+
+  module _ (k : DeltaCursor) where
+    piece-stays : isReading (answers k) ≡ false → pieceOf s k .cursor ≡ k
+    unfolding pieceOf leaves said
+    piece-stays = by-step s k (k .left + limit) (omega arith) (omega arith) P over (λ d w i h. no h) (λ x y q d w i h. no h)
+      where
+        P : DeltaStepped → Type 0
+        P x = isReading (x .answer) ≡ false → tookOf (x .cursor) (x .answer) .cursor ≡ k
+
+        no : {X : Type 0} → true ≡ false → X
+        no h = let z : _≡_ {A = ℕ} 0 1 = cc in absurd (omega arith)
+
+        over : (e : Ending) → P (told k (ends e))
+        over sound h = refl
+        over (fault number place) h = refl
+
+    -- where a piece has no values its difference is 0
+    pub still-unless : isPresent (pieceOf s k .piece .answer) ≡ false → pieceOf s k .piece .difference ≡ pos 0
+    unfolding pieceOf leaves said
+    still-unless = by-step s k (k .left + limit) (omega arith) (omega arith) P over missing on
+      where
+        P : DeltaStepped → Type 0
+        P x = isPresent (tookOf (x .cursor) (x .answer) .piece .answer) ≡ false → tookOf (x .cursor) (x .answer) .piece .difference ≡ pos 0
+
+        over : (e : Ending) → P (told k (ends e))
+        over sound h = refl
+        over (fault number place) h = refl
+
+        still : (len at had left : ℕ) (x : Sort ℤ) (z : ℤ) → Again absent x → tookOf (keptAs len at had left x z) answer.Absent .piece .difference ≡ pos 0
+        still len at had left (same absent) z a = refl
+        still len at had left (same (present v p)) z a = let y : _≡_ {A = ℕ} 0 1 = cc in absurd (omega arith)
+        still len at had left literal z a = refl
+
+        missing : (d : Cursor ℤ) → k .len ≡ length s → Given i64E i64-laws s (k .left + limit) (cursorOf k .differences) absent d
+            → P (told k (gives absent (summing d (k .sum))))
+        missing d w i h = still (k .len) (d .at) (d .had) (d .left) (d .sort) (k .sum) (i .2)
+
+        on : (x y : ℤ) (q : ℕ) (d : Cursor ℤ) → k .len ≡ length s → Given i64E i64-laws s (k .left + limit) (cursorOf k .differences) (present x q) d
+            → P (told k (gives (present y q) (summing d y)))
+        on x y q d w i h =
+            let e : true ≡ false = sym (ap isPresent (took-answer (kept (k .len) (summing d y)) (answer.Present y))) ∙ h in
+            let z : _≡_ {A = ℕ} 0 1 = cc in
+            absurd (omega arith)
 
   -- ---- pieces from a new state, one after the other
 
@@ -372,8 +514,22 @@ module _ (s : List ℕ) where
       taking.all-given call answers timesOf (λ k. readingAt (pieceOf s k .piece)) pastOf stands (newFor (length s)) (deltaTrace s) answerFor (nth-answer s) isReading
       reading-is ended-not (some-given s) (none-given s) (all-read s)
 
-  -- "and then the end, however often asked", or "the refusal of the whole-column call, again at every later call"
-  pub then-ending : (n : ℕ) → length (deltaTrace s .readings) ≤ n → pieceAt n ≡ record { answer = answerFor (ended (deltaTrace s .ending)); difference = pos 0; times = 0 }
+  -- and so have as many as it has bytes: no more pieces have readings, whatever the counts
+  pub few-given : (n : ℕ) → length s ≤ n → hadBefore n ≡ length (deltaTrace s .readings)
+  few-given n l =
+      taking.none-left call answers timesOf (λ k. readingAt (pieceOf s k .piece)) pastOf stands
+      (newFor (length s)) (deltaTrace s) answerFor (nth-answer s) isReading reading-is ended-not (some-given s) (none-given s) (all-read s)
+      n (go (isReading (answers (after pastOf n (newFor (length s))))) refl)
+    where
+      go : (b : Bool) → isReading (answers (after pastOf n (newFor (length s)))) ≡ b → isReading (answers (after pastOf n (newFor (length s)))) ≡ false
+      go false e = e
+      go true e =
+          let m = taking.few-pieces pastOf (λ k. isReading (answers k)) weightOf piece-stays some-weight piece-falls n (newFor (length s)) e in
+          absurd (omega arith)
+
+  -- "and then the end, however often asked", or "the refusal of the whole-column call, again at every later call": the piece behind the last reading
+  pub then-ending : (n : ℕ) → hadBefore n ≡ length (deltaTrace s .readings)
+      → pieceAt n ≡ record { answer = answerFor (ended (deltaTrace s .ending)); difference = pos 0; times = 0 }
   then-ending n l =
       let k = after pastOf n (newFor (length s)) in
       let h = taking.then-ending call answers timesOf (λ k. readingAt (pieceOf s k .piece)) pastOf stands (newFor (length s)) (deltaTrace s) answerFor (nth-answer s) isReading

@@ -1,12 +1,13 @@
--- Laws of one difference added over and over, as long as an i64 holds the sums: each sum that is counted is held (`held-each`); and the same by sums
--- that are kept as unsigned numbers, as the code has them (`held-behind`). Assumes nothing.
+-- Laws of one difference added over and over, as long as an i64 holds the sums: each sum that is counted is held (`held-each`), and the next is not
+-- (`held-over`); so many times a difference is its multiple (`each-times`); and the same by sums that are kept as unsigned numbers, as the code has them
+-- (`held-behind`). Assumes nothing.
 use Prim.Native.Nat.{ℕ, zero, suc, _+_, _*_, _-_, _^_, _≤_, _<_}
 use mathlib.Core.Path.{_≡_, refl, sym, _∙_, ap}
 use mathlib.Core.Bool.{Bool, true, false, cond}
 use mathlib.Core.Option.{Option, none, some}
 use native.Mathlib.Nat.{mul-zero}
 use native.Mathlib.Omega.{arith}
-use lib.IntN.{ℤ, pos, negsuc, _+ℤ_}
+use lib.IntN.{ℤ, pos, negsuc, _+ℤ_, _*ℤ_, +ℤ-idr, +ℤ-assoc, +ℤ-comm, zero-*ℤ, sucℤ-*ℤ}
 use Rattle.delta_decoder.specs.Difference.{holds}
 use Rattle.delta_decoder.specs.Sums.{heldSum}
 use Rattle.delta_decoder.specs.Sofar.{sumOf, plus, plusTimes, heldOn, timesHeld}
@@ -45,6 +46,25 @@ held-each d (suc n) i z l = go (heldSum z d) refl i l (λ j y h. held-each d n j
     go none e i l ih = absurd (omega arith)
     go (some y) e zero l ih = e ∙ ap some (sym (held-is z d y e))
     go (some y) e (suc i) l ih = ap (λ (x : ℤ). heldSum (plusEach x d i) d) (held-is z d y e) ∙ ih i y (omega arith) ∙ sym (ap (λ (x : ℤ). some (plusEach x d (suc i))) (held-is z d y e))
+
+-- fewer than all are held where the next is not
+pub held-over : (d : ℤ) (n : ℕ) (z : ℤ) → heldEach z d n < n → heldSum (plusEach z d (heldEach z d n)) d ≡ none
+unfolding heldEach plusEach
+held-over d zero z l = absurd (omega arith)
+held-over d (suc n) z l = go (heldSum z d) refl l (λ y h. held-over d n y h)
+  where
+    go : (o : Option ℤ) → heldSum z d ≡ o → heldOn o (λ y. suc (heldEach y d n)) < suc n
+        → ((y : ℤ) → heldEach y d n < n → heldSum (plusEach y d (heldEach y d n)) d ≡ none)
+        → heldSum (plusEach z d (heldOn o (λ y. suc (heldEach y d n)))) d ≡ none
+    go none e l ih = e
+    go (some y) e l ih = ap (λ (x : ℤ). heldSum (plusEach x d (heldEach y d n)) d) (held-is z d y e) ∙ ih y (omega arith)
+
+-- n times a difference more
+pub each-times : (d : ℤ) (n : ℕ) (z : ℤ) → plusEach z d n ≡ z +ℤ (pos n *ℤ d)
+unfolding plusEach
+each-times d zero z = sym (ap (λ (x : ℤ). z +ℤ x) (zero-*ℤ d) ∙ +ℤ-idr z)
+each-times d (suc n) z =
+    each-times d n (z +ℤ d) ∙ +ℤ-assoc z d (pos n *ℤ d) ∙ ap (λ (x : ℤ). z +ℤ x) (+ℤ-comm d (pos n *ℤ d) ∙ sym (sucℤ-*ℤ (pos n) d))
 
 -- ---- the same by sums that are kept as unsigned numbers
 

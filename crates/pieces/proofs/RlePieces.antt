@@ -1,6 +1,7 @@
 -- THE THEOREMS of pieces for columns of u64. From any state so many steps as a piece has times answer its reading each, and leave the state that it
 -- leaves (`stands`). So from a new state the pieces' readings in order are what the trace of the column has to say (`nth-reading`): all of them
--- (`all-given`), and then its ending, however often asked (`then-ending`). And what the code needs of a step. Assumes nothing.
+-- (`all-given`), in no more pieces than the column has bytes (`few-given`), and the piece behind them is its ending, however often asked
+-- (`then-ending`). And what the code needs of a step. Assumes nothing.
 use Prim.Native.Nat.{ℕ, zero, suc, _+_, _-_, _^_, _≤_, _<_}
 use mathlib.Core.Path.{_≡_, refl, sym, _∙_, ap, subst}
 use mathlib.Core.Bool.{Bool, true, false, cond}
@@ -18,7 +19,7 @@ use Rattle.cursor.specs.Kept.{leaves, after}
 use Rattle.cursor.specs.Cursor.{Sort, same, literal, Cursor, cursor, step}
 use Rattle.cursor.specs.Taking.{Stands, readingsIn}
 use Rattle.cursor.proofs.Keeping.{checked-by}
-use Rattle.cursor.proofs.Pieces.{Gives, Again, Given, step-same, step-given}
+use Rattle.cursor.proofs.Pieces.{weight, Fallen, Gives, Again, Given, step-same, step-given}
 use Rattle.cursor.proofs.Taking as taking
 use Rattle.rle_decoder.specs.Word.{u64E}
 use Rattle.rle_decoder.proofs.WordLaws.{u64-laws}
@@ -57,13 +58,13 @@ took s k {r} e h = ap (λ (r : RleStepped). tookOf (r .cursor) (r .answer)) (sym
 
 module _ (s : List ℕ) (k : RleCursor) (b : ℕ) (m : limit ≤ b) (l : k .left ≤ b) where
   by-step : (P : RleStepped → Type 0) → ((e : Ending) → P (told k (ends e)))
-      → ((r : Reading ℕ) (d : Cursor ℕ) → k .len ≡ length s → Given u64E u64-laws s b r d → P (told k (gives r d))) → P (stepOf s k)
+      → ((r : Reading ℕ) (d : Cursor ℕ) → k .len ≡ length s → Given u64E u64-laws s b (cursorOf k) r d → P (told k (gives r d))) → P (stepOf s k)
   unfolding stepOf
   by-step P f g =
       checked-by (k .len) (k .at) s (step u64E s (cursorOf k)) (λ x. P (told k x))
       (λ e w. go (step u64E s (cursorOf k)) e (step-given u64E u64-laws s b (cursorOf k) m w l)) (f (fault 24 0))
     where
-      go : (x : Stepped (Reading ℕ) (Cursor ℕ)) → k .len ≡ length s → Gives (Given u64E u64-laws s b) x → P (told k x)
+      go : (x : Stepped (Reading ℕ) (Cursor ℕ)) → k .len ≡ length s → Gives (Given u64E u64-laws s b (cursorOf k)) x → P (told k x)
       go (ends e) w h = f e
       go (gives r d) w h = g r d w h
 
@@ -84,7 +85,7 @@ left-fits s k f e = subst P (sym e) (by-step s k (2 ^ 64 - 1) (omega arith) (ome
     over sound h = let z : _≡_ {A = ℕ} 0 1 = cc in absurd (omega arith)
     over (fault number place) h = let z : _≡_ {A = ℕ} 0 1 = cc in absurd (omega arith)
 
-    on : (r : Reading ℕ) (d : Cursor ℕ) → k .len ≡ length s → Given u64E u64-laws s (2 ^ 64 - 1) r d → P (told k (gives r d))
+    on : (r : Reading ℕ) (d : Cursor ℕ) → k .len ≡ length s → Given u64E u64-laws s (2 ^ 64 - 1) (cursorOf k) r d → P (told k (gives r d))
     on r d w g h = omega (arith, g .1, kept-left (k .len) (d .at) (d .had) (d .left) (d .sort))
 
 -- ---- how many readings a piece has
@@ -228,8 +229,51 @@ module _ (s : List ℕ) where
       inside at had left literal r w v a =
           λ h. subst (StandsAs k) (sym (took-literal (k .len) at had left r)) (single-stands k (keptAs (k .len) at had left literal) (answerFor (reading r)) h)
 
-      on : (r : Reading ℕ) (d : Cursor ℕ) → k .len ≡ length s → Given u64E u64-laws s (k .left + limit) r d → P (told k (gives r d))
+      on : (r : Reading ℕ) (d : Cursor ℕ) → k .len ≡ length s → Given u64E u64-laws s (k .left + limit) (cursorOf k) r d → P (told k (gives r d))
       on r d w g = inside (d .at) (d .had) (d .left) (d .sort) r w (g .0) (g .2)
+
+  -- ---- a piece takes bytes or ends a run, and an ending leaves the state
+
+  abbrev weightOf : RleCursor → ℕ
+  weightOf k = weight (length s) (k .at) (k .left)
+
+  fallen : (len at had left w : ℕ) (x : Sort ℕ) (r : Reading ℕ) → Fallen (length s) w at left x
+      → weightOf (tookOf (keptAs len at had left x) (answerFor (reading r)) .cursor) < w
+  fallen len at had left w (same absent) absent f = omega arith
+  fallen len at had left w (same absent) (present a q) f = omega arith
+  fallen len at had left w (same (present v p)) absent f = omega arith
+  fallen len at had left w (same (present v p)) (present a q) f = omega arith
+  fallen len at had left w literal absent f = f
+  fallen len at had left w literal (present a q) f = f
+
+  piece-falls : (k : RleCursor) → isReading (answers k) ≡ true → weightOf (pieceOf s k .cursor) < weightOf k
+  unfolding pieceOf leaves said
+  piece-falls k = by-step s k (k .left + limit) (omega arith) (omega arith) P over on
+    where
+      P : RleStepped → Type 0
+      P x = isReading (x .answer) ≡ true → weightOf (tookOf (x .cursor) (x .answer) .cursor) < weightOf k
+
+      over : (e : Ending) → P (told k (ends e))
+      over sound h = let z : _≡_ {A = ℕ} 0 1 = cc in absurd (omega arith)
+      over (fault number place) h = let z : _≡_ {A = ℕ} 0 1 = cc in absurd (omega arith)
+
+      on : (r : Reading ℕ) (d : Cursor ℕ) → k .len ≡ length s → Given u64E u64-laws s (k .left + limit) (cursorOf k) r d → P (told k (gives r d))
+      on r d w g h = fallen (k .len) (d .at) (d .had) (d .left) (weightOf k) (d .sort) r (g .3)
+
+  piece-stays : (k : RleCursor) → isReading (answers k) ≡ false → pieceOf s k .cursor ≡ k
+  unfolding pieceOf leaves said
+  piece-stays k = by-step s k (k .left + limit) (omega arith) (omega arith) P over on
+    where
+      P : RleStepped → Type 0
+      P x = isReading (x .answer) ≡ false → tookOf (x .cursor) (x .answer) .cursor ≡ k
+
+      over : (e : Ending) → P (told k (ends e))
+      over sound h = refl
+      over (fault number place) h = refl
+
+      on : (r : Reading ℕ) (d : Cursor ℕ) → k .len ≡ length s → Given u64E u64-laws s (k .left + limit) (cursorOf k) r d → P (told k (gives r d))
+      on absent d w g h = let z : _≡_ {A = ℕ} 0 1 = cc in absurd (omega arith)
+      on (present a q) d w g h = let z : _≡_ {A = ℕ} 0 1 = cc in absurd (omega arith)
 
   -- ---- pieces from a new state, one after the other
 
@@ -265,8 +309,23 @@ module _ (s : List ℕ) where
       taking.all-given call answers timesOf (λ k i. pieceOf s k .piece .answer) pastOf stands (newFor (length s)) (trace u64E s) answerFor (nth-answer s) isReading
       reading-is ended-not (some-given s) (none-given s) (all-read s)
 
-  -- "and then the end, however often asked", or "the refusal of the whole-column call, again at every later call"
-  pub then-ending : (n : ℕ) → length (trace u64E s .readings) ≤ n → pieceAt n ≡ record { answer = answerFor (ended (trace u64E s .ending)); times = 0 }
+  -- and so have as many as it has bytes: no more pieces have readings, whatever the counts
+  pub few-given : (n : ℕ) → length s ≤ n → hadBefore n ≡ length (trace u64E s .readings)
+  few-given n l =
+      taking.none-left call answers timesOf (λ k i. pieceOf s k .piece .answer) pastOf stands
+      (newFor (length s)) (trace u64E s) answerFor (nth-answer s) isReading reading-is ended-not (some-given s) (none-given s) (all-read s)
+      n (go (isReading (answers (after pastOf n (newFor (length s))))) refl)
+    where
+      go : (b : Bool) → isReading (answers (after pastOf n (newFor (length s)))) ≡ b → isReading (answers (after pastOf n (newFor (length s)))) ≡ false
+      go false e = e
+      go true e =
+          let m = taking.few-pieces pastOf (λ k. isReading (answers k)) weightOf piece-stays (λ k g. let f = piece-falls k g in omega arith)
+          (λ k g h. piece-falls k g) n (newFor (length s)) e in
+          absurd (omega arith)
+
+  -- "and then the end, however often asked", or "the refusal of the whole-column call, again at every later call": the piece behind the last reading
+  pub then-ending : (n : ℕ) → hadBefore n ≡ length (trace u64E s .readings)
+      → pieceAt n ≡ record { answer = answerFor (ended (trace u64E s .ending)); times = 0 }
   then-ending n l =
       let k = after pastOf n (newFor (length s)) in
       let h = taking.then-ending call answers timesOf (λ k i. pieceOf s k .piece .answer) pastOf stands (newFor (length s)) (trace u64E s) answerFor (nth-answer s) isReading

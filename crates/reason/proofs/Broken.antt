@@ -135,6 +135,16 @@ module _ (s : List ℕ) (at number place : ℕ) (l : at ≤ length s) where
       digits-broken s at number place (unsigned at (min at (length s)))
       (λ low scale prev last count. judged number place (min at (length s)) (at + count) (uLarge last count) (uLong last count) (low + scale * last)) (λ r. refl) l
 
+  -- a number that reads has all its bytes: so it is where it is refused with 2 as too large for a u32
+  pub u64-whole : (v next : ℕ) → u64At s at ≡ got v next → Broken s 2 at (numberBytes 0 (drop at s))
+  unfolding u64At
+  u64-whole v next = go (digits 0 0 (drop at s)) (spans 0 0 (drop at s) (omega arith))
+    where
+      go : (c : Digits) → Spans (drop at s) 0 (numberBytes 0 (drop at s)) c → unsigned at (min at (length s)) c ≡ got v next
+          → Broken s 2 at (numberBytes 0 (drop at s))
+      go (whole low scale prev last count) f e = full-broken s at (numberBytes 0 (drop at s)) l 2 (inl refl) f
+      go (broken r) f e = let z : _≡_ {A = ℕ} 0 1 = cc in absurd (omega arith)
+
   pub i64-broken : i64At s at ≡ bad number place → (place ≡ at) × Broken s number at (numberBytes 0 (drop at s))
   unfolding i64At
   i64-broken =

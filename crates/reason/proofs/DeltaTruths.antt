@@ -1,6 +1,6 @@
 -- THE REASON OF A DELTA COLUMN IS TRUE. For 6 the run named holds the delta at the place, at the index named, and the sum before it and the delta leave i64 together; any other fault
--- is that of the differences. Assumes nothing.
-use Prim.Native.Nat.{ℕ, suc, _-_, _≤_, _<_}
+-- is that of the differences. No earlier sum leaves i64 (`sums-held`). Assumes nothing.
+use Prim.Native.Nat.{ℕ, zero, suc, _-_, _≤_, _<_}
 use mathlib.Core.Logic.{_⊎_, inl, inr}
 use mathlib.Core.Path.{_≡_, refl, sym, _∙_, ap}
 use mathlib.Core.List.{List, [], _∷_}
@@ -22,12 +22,35 @@ use Rattle.delta_decoder.specs.Difference.{i64E, holds}
 use Rattle.delta_decoder.proofs.DifferenceLaws.{i64-laws}
 use Rattle.delta_decoder.specs.Sums.{heldSum, front, added, addUp, deltaTrace, lastSum}
 use Rattle.reason.specs.Reason.{sum, Reason, signedCount, holding, told, delta, plainFacts, spotsOf, sumFacts, deltaReason}
-use Rattle.reason.specs.True.{Explained, Unread, RunFault, ColumnFalls, Leaves, DeltaTrue}
+use Rattle.reason.specs.True.{Explained, Unread, RunFault, ColumnFalls, Leaves, SumsHeld, DeltaTrue}
 use Rattle.reason.proofs.Named.{Names, Faulty, Having, having}
 use Rattle.reason.proofs.RunFaults.{i64-unread}
 use Rattle.reason.proofs.Truths.{explained, unlike, column-named, column-true, plain-falls}
 
--- what is read at a place
+-- ---- each sum that is told is held
+
+no-reading : {X : Type 0} {z : ℤ} {q : ℕ} → _≡_ {A = Reading ℤ} absent (present z q) → X
+no-reading h = let y : _≡_ {A = ℕ} 0 1 = cc in absurd (omega arith)
+
+held-in : (z : ℤ) (rs : List (Reading ℤ)) (e : Ending) (i : ℕ) (y : ℤ) (q : ℕ) → getD (addUp z rs e .readings) i absent ≡ present y q → holds y ≡ true
+unfolding addUp added heldSum
+held-in z [] e i y q h = no-reading h
+held-in z (absent ∷ rs) e zero y q h = no-reading h
+held-in z (absent ∷ rs) e (suc i) y q h = held-in z rs e i y q h
+held-in z (present d p ∷ rs) e i y q h = go (holds (z +ℤ d)) refl i (λ j k. held-in (z +ℤ d) rs e j y q k) h
+  where
+    go : (t : Bool) → holds (z +ℤ d) ≡ t → (i : ℕ) → ((j : ℕ) → getD (addUp (z +ℤ d) rs e .readings) j absent ≡ present y q → holds y ≡ true)
+        → getD (added p (cond t (some (z +ℤ d)) none) (λ y. addUp y rs e) .readings) i absent ≡ present y q → holds y ≡ true
+    go false o i ih h = no-reading h
+    go true o zero ih h = let k : z +ℤ d ≡ y = cc in sym (ap holds k) ∙ o
+    go true o (suc i) ih h = ih i h
+
+sums-held : (s : List ℕ) → SumsHeld s
+unfolding deltaTrace
+sums-held s i z place h = held-in (pos 0) (trace i64E s .readings) (trace i64E s .ending) i z place h
+
+-- ---- what is read at a place
+
 abbrev ReadAt : List ℕ → ℤ → ℕ → Type 0
 ReadAt s d place = (z : ℕ) × (i64At s place ≡ got d z)
 
@@ -129,7 +152,7 @@ module _ (s : List ℕ) where
       having (columns i64E i64-laws s) absent v n n (length s) 0 (spot 0 0) (omega arith) (omega (arith, l, ap length w)) (ap (λ (xs : List (Reading ℤ)). getD xs n absent) (sym w) ∙ e)
 
   abbrev Why : Spot → Reason → Type 0
-  Why st r = ColumnFalls i64E s (Unread i64At s) st r ⊎ Leaves s st r
+  Why st r = SumsHeld s × (ColumnFalls i64E s (Unread i64At s) st r ⊎ Leaves s st r)
 
   -- a reason of the run that is named, which is true
   abbrev Given : ℕ → ℕ → Type 0
@@ -148,7 +171,7 @@ module _ (s : List ℕ) where
       let h : trace i64E s .ending ≡ fault number place = sym x ∙ e in
       let other : number ≡ 6 → ⊥ = λ m. never-six place (h ∙ ap (λ (i : ℕ). fault i place) m) in
       column-true i64E i64-laws s (deltaTrace s) (sumFacts s number place) number place (Faulty M n number place) Why (column-named i64E i64-laws s number place n h y) e
-      (λ k st f l. inl (difference-falls _ st (rw (ne-eqb number 6 other) refl) f l))
+      (λ k st f l. (sums-held s, inl (difference-falls _ st (rw (ne-eqb number 6 other) refl) f l)))
 
   leaves : (number place : ℕ) → deltaTrace s .ending ≡ fault number place → number ≡ 6 → Beyond s (pos 0) (trace i64E s .readings) (trace i64E s .ending) place
       → Given number place
@@ -157,23 +180,25 @@ module _ (s : List ℕ) where
       let n = length (deltaTrace s .readings) in
       let v : Reading ℤ = present (y .d) place in
       column-true i64E i64-laws s (deltaTrace s) (sumFacts s number place) number place (Having (columns i64E i64-laws s) absent v n) Why (difference-named n v (y .fewer) (y .reading)) e
-      (λ k st h l.
-      inr (
-      record {
-        number = m;
-        z = lastSum (pos 0) (deltaTrace s .readings);
-        d = y .d;
-        facts = rw (eq-eqb number 6 m) (ap (λ (g : Got ℤ). sum (lastSum (pos 0) (deltaTrace s .readings)) (delta g)) (y .read .1));
-        last = refl;
-        next = y .read .0;
-        there = y .read .1;
-        nth = h .0;
-        index = h .1;
-        reading = h .2;
-        held = y .held;
-        small = λ B. lt-ltb _ _ (i64-only s B place (y .read .0) (y .d) (y .read .1) .1);
-        outside = y .outside;
-      }
+      (λ k st h l. (
+        sums-held s,
+        inr (
+            record {
+              number = m;
+              z = lastSum (pos 0) (deltaTrace s .readings);
+              d = y .d;
+              facts = rw (eq-eqb number 6 m) (ap (λ (g : Got ℤ). sum (lastSum (pos 0) (deltaTrace s .readings)) (delta g)) (y .read .1));
+              last = refl;
+              next = y .read .0;
+              there = y .read .1;
+              nth = h .0;
+              index = h .1;
+              reading = h .2;
+              held = y .held;
+              small = λ B. lt-ltb _ _ (i64-only s B place (y .read .0) (y .d) (y .read .1) .1);
+              outside = y .outside;
+            }
+            ),
       ))
 
   pub delta-true : Explained (deltaTrace s) (deltaReason s) (DeltaTrue s)

@@ -143,9 +143,13 @@ pub record Leaves (s : List ℕ) (st : Spot) (r : Reason) : Type 0 where
   pub small : ((i : ℕ) → getD s i 0 < 256) → holds d ≡ true
   pub outside : holds (z +ℤ d) ≡ false
 
+-- no earlier sum leaves i64
+abbrev pub SumsHeld : List ℕ → Type 0
+SumsHeld s = (i : ℕ) (z : ℤ) (place : ℕ) → getD (deltaTrace s .readings) i absent ≡ present z place → holds z ≡ true
+
 -- the runs of a delta column are those of its differences
 abbrev pub DeltaTrue : List ℕ → Reason → Type 0
-DeltaTrue s = ColumnTrue i64E s (deltaTrace s) (λ st r. ColumnFalls i64E s (Unread i64At s) st r ⊎ Leaves s st r)
+DeltaTrue s = ColumnTrue i64E s (deltaTrace s) (λ st r. SumsHeld s × (ColumnFalls i64E s (Unread i64At s) st r ⊎ Leaves s st r))
 
 -- a run of a boolean column is one count
 pub data TurnFault (s : List ℕ) (k : ℕ) (st : Turn) (r : Reason) : Type 0 where

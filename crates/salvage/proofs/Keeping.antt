@@ -66,14 +66,6 @@ keeps-lasting read h =
       final = λ s u number place e f. keeps-final (read s) (read (s ++ u)) number place (h s u) e f;
     }
 
--- no bytes make a column sound whose fault is final
-pub lasting-unsound : {R : Type 0} (read : List ℕ → Trace R) → Lasting read → (s u : List ℕ) (number place : ℕ) → read s .ending ≡ fault number place
-    → Final number → read (s ++ u) .ending ≡ sound → ⊥
-lasting-unsound {R} read l s u number place e f o =
-    let z : fault number place ≡ sound = sym e ∙ sym (ap (λ (t : Trace R). t .ending) (l .final s u number place e f)) ∙ o in
-    let y : _≡_ {A = ℕ} 0 1 = cc in
-    omega arith
-
 -- ---- of a run, by what follows it
 
 abbrev pub Follows : {R S : Type 0} → List R → Next S → Run R S → Type 0

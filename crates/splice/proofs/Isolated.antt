@@ -6,7 +6,7 @@ use mathlib.Core.List.{List, [], _++_}
 use mathlib.Core.Option.{Option, none, some}
 use mathlib.Core.Bool.{Bool, true, false, cond}
 use native.Mathlib.Omega.{arith}
-use lib.Seq.{drop-drop, length-take-le}
+use lib.Seq.{drop-drop, drop-at, length-take-le}
 use lib.ListN.{length, getD, set, take, drop, length-append, length-take, length-drop, take-append-drop}
 use lib.Dec.{ltb, leb}
 use borrow.Author.Tests.{ltb-true, leb-true, ltb-false}
@@ -14,7 +14,7 @@ use Rattle.leb128.specs.Answer.{Answer, done, refused}
 use Rattle.encoding.specs.Limit.{limit}
 use Rattle.encoding.specs.Walk.{Ending, fault, outcomeOf, outcome}
 use Rattle.encoding.proofs.Lists.{cond-by}
-use Rattle.raw_column.specs.Table.{Tab, tab, sum, parse}
+use Rattle.raw_column.specs.Table.{Tab, tab, faulty, sum, parse}
 use Rattle.block_frame.specs.Columns.{tableBytes, newBlock}
 use Rattle.column_part.specs.Part.{startOf, partAt, bytesOf}
 use Rattle.raw_column.specs.Rows.{opened}
@@ -25,7 +25,7 @@ use Rattle.block_frame.proofs.Tables.{Below, table-fills, table-back}
 use Rattle.slots.specs.Splice.{spliced}
 use Rattle.splice.specs.Kind.{Kind}
 use Rattle.splice.specs.Edit.{Edited, stop, late, accepted, endIn, below, serves, refuses, finished, editList, readBy, editColumn, editIn, edited}
-use Rattle.splice.specs.Edit.{answered, slotsLeft}
+use Rattle.splice.specs.Edit.{answered, slotsLeft, outLeft}
 use Rattle.splice.specs.declared.End.{End}
 use Rattle.splice.proofs.Planning.{in-order}
 use Rattle.splice.proofs.Refusing.{refuses-by}
@@ -163,6 +163,7 @@ module _ {A : Type 0} (K : Kind A) (s specs lens : List ℕ) (next position star
     pub ordered : start ≤ endIn end old
     pub within : endIn end old ≤ old
     pub list : xs ≡ spliced (K .reads (columnAt s lens next position) .readings) start (endIn end old) new
+    pub few : length xs ≤ limit
     pub block-is : block ≡ newBlock s specs lens next position (K .writes xs)
     pub served : position < length specs
     pub fits : length block ≤ room
@@ -180,18 +181,18 @@ module _ {A : Type 0} (K : Kind A) (s specs lens : List ℕ) (next position star
       cond-by RightIn (ltb (length old) start) (λ h. tt)
       (λ a. cond-by RightIn (ltb (length old) (endIn end (length old))) (λ b. tt)
       (λ b. cond-by RightIn (ltb limit (length xs)) (λ h. tt)
-      (λ h. cond-by RightIn (ltb slots (max (length old) (length xs))) (λ h. tt)
+      (λ c. cond-by RightIn (ltb slots (max (length old) (length xs))) (λ h. tt)
       (λ h. go (in-order (length old) start end n (ltb-false (length old) start a)) (ltb-false (length old) (endIn end (length old)) b)
-      (K .wide xs)))))
+      (ltb-false limit (length xs) c) (K .wide xs)))))
     where
-      go : let n = length (K .reads (columnAt s lens next position) .readings) in start ≤ endIn end n → endIn end n ≤ n → (w : Option ℕ)
+      go : let n = length (K .reads (columnAt s lens next position) .readings) in start ≤ endIn end n → endIn end n ≤ n
           → let old = K .reads (columnAt s lens next position) .readings in let xs = spliced old start (endIn end (length old)) new in
-          RightIn (finished K (length old) xs room (newBlock s specs lens next position) w)
-      go a b (some i) =
+          length xs ≤ limit → (w : Option ℕ) → RightIn (finished K (length old) xs room (newBlock s specs lens next position) w)
+      go a b c (some i) =
           let old = K .reads (columnAt s lens next position) .readings in
           let xs = spliced old start (endIn end (length old)) new in
           refuses-by K 7 i (length old) xs RightIn tt tt
-      go a b none =
+      go a b c none =
           let old = K .reads (columnAt s lens next position) .readings in
           let xs = spliced old start (endIn end (length old)) new in
           cond-by RightIn (leb (length (newBlock s specs lens next position (K .writes xs))) room)
@@ -201,6 +202,7 @@ module _ {A : Type 0} (K : Kind A) (s specs lens : List ℕ) (next position star
             ordered = a;
             within = b;
             list = refl;
+            few = c;
             block-is = refl;
             served = row;
             fits = leb-true (length (newBlock s specs lens next position (K .writes xs))) room h;
@@ -232,6 +234,24 @@ module _ {A : Type 0} (K : Kind A) (s specs lens : List ℕ) (next position star
   unfolding edited
   accepted-right slots given old xs block e h =
       subst RightIn (ap (editIn K s position start end given new slots room) (sym e) ∙ h) (right-in slots given)
+
+  -- and that the new readings were good
+  abbrev Barred : Edited A → Type 0
+  Barred (stop number place) = Unit {0}
+  Barred (late number place old xs) = Unit {0}
+  Barred (accepted old xs block) = ⊥
+
+  barred : (slots number place : ℕ) (t : Tab) → Barred (editIn K s position start end (refused number place) new slots room t)
+  barred slots number place (faulty n p) = tt
+  barred slots number place (tab specs lens next) =
+      cond-by Barred (ltb position (length specs))
+      (λ h. cond-by Barred (serves (K .kind) (getD specs position 0)) (λ h. cond-by Barred (below start end) (λ h. tt) (λ h. tt)) (λ h. tt)) (λ h. tt)
+
+  pub accepted-good : (slots : ℕ) (given : Answer) (old : ℕ) (xs : List A) (block : List ℕ)
+      → edited K s position start end given new slots room ≡ accepted old xs block → (g : ℕ) × (given ≡ done g)
+  unfolding edited
+  accepted-good slots (done g) old xs block h = (g, refl)
+  accepted-good slots (refused number place) old xs block h = absurd (subst Barred h (barred slots number place (parse s)))
 
   -- the other columns keep the bytes that they had there
   pub record Kept (column block : List ℕ) : Type 0 where
@@ -284,6 +304,22 @@ pub alike-slots : {A B : Type 0} {K : Kind A} {s s′ specs lens : List ℕ} {po
 alike-slots z f v (both-stop number place) = refl
 alike-slots z f v (both-late number place old xs) = refl
 alike-slots z f v (both-accepted old xs block block′ a) = refl
+
+-- and the same in the same output: behind the new block, and after a refusal all of it
+pub alike-behind : {A : Type 0} {K : Kind A} {s s′ specs lens : List ℕ} {position : ℕ} {e e′ : Edited A} (out : List ℕ)
+    → Alike K s s′ specs lens position e e′ → drop (answered e .len) (outLeft e out) ≡ drop (answered e′ .len) (outLeft e′ out)
+alike-behind out (both-stop number place) = refl
+alike-behind out (both-late number place old xs) = refl
+alike-behind out (both-accepted old xs block block′ a) =
+    drop-at block (drop (length block) out) (length block) refl
+    ∙ ap (λ (n : ℕ). drop n out) (a .size)
+    ∙ sym (drop-at block′ (drop (length block′) out) (length block′) refl)
+
+pub alike-refused : {A : Type 0} {K : Kind A} {s s′ specs lens : List ℕ} {position : ℕ} {e e′ : Edited A} (out : List ℕ)
+    → Alike K s s′ specs lens position e e′ → (answered e .number ≡ 0 → ⊥) → outLeft e out ≡ outLeft e′ out
+alike-refused out (both-stop number place) h = refl
+alike-refused out (both-late number place old xs) h = refl
+alike-refused out (both-accepted old xs block block′ a) h = absurd (h refl)
 
 no-row : {A : Type 0} (K : Kind A) (s specs lens : List ℕ) (next position start : ℕ) (end : End) (given : Answer) (new : List A) (slots room : ℕ)
     → parse s ≡ tab specs lens next → ltb position (length specs) ≡ false → edited K s position start end given new slots room ≡ stop 16 0

@@ -156,17 +156,11 @@ module _ (s : List ℕ) where
         many = h .1 ∙ sym (h .0);
       })
       (h .2 (u64-next s 0 n q e .1))
-  right-read n q k (faulty number place) e few f h =
-      let b = row-refusal (h .refused) in (
-        refl,
-        refl,
-        record {
-          number = b .numbered;
-          unread = record { count = n; first = q; counted = e; few = few; unread = h };
-          is = refl;
-          there = b .there;
-        },
-      )
+  right-read n q k (faulty number place) e few f h = (
+    refl,
+    refl,
+    record { unread = record { count = n; first = q; counted = e; few = few; unread = h }; is = refl; broken = row-refusal (h .refused) },
+  )
 
   right : Right s (parse s) (tableReason s)
   unfolding parse tableReason
@@ -178,9 +172,7 @@ module _ (s : List ℕ) where
           both-by (Right s) (ltb 64 n)
           (λ h. (refl, refl, record { number = refl; place = refl; names = refl; behind = q; counted = e; passes = ltb-true 64 n h }))
           (λ h. right-read n q (rowsRead n s q) (rowsAt n s q) e (ltb-false 64 n h) refl (rows-end s n q))
-      go (bad number place) e =
-          let b = u64-refusal s 0 number place e in
-          (refl, refl, record { number = b .numbered; unread = e; is = refl; there = b .there })
+      go (bad number place) e = (refl, refl, record { unread = e; is = refl; broken = u64-refusal s 0 number place e })
 
   -- ---- the theorems
 

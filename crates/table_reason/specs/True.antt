@@ -11,6 +11,7 @@ use Rattle.column_specification.specs.Key.{key}
 use Rattle.column_specification.specs.Specification.{compressedOf}
 use Rattle.raw_column.specs.Table.{tab, rowsAt, sum}
 use Rattle.reason.specs.Reason.{numberBytes}
+use Rattle.reason.specs.True.{Broken}
 use Rattle.table_reason.specs.TableReason.{Facts, bytes, columns, falls, compressed, lengths, Row, nowhere, row, TableReason}
 
 -- ---- a number that does not read
@@ -43,21 +44,11 @@ abbrev pub UnreadAt : List ℕ → ℕ → ℕ → Row → Type 0
 UnreadAt s number place nowhere = u64At s 0 ≡ bad number place
 UnreadAt s number place (row i) = RowsUnread s i number place
 
--- 1, 2, 3 or 21
-pub data NumberFault (number : ℕ) : Type 0 where
-  begun : 0 < number → number ≤ 3 → NumberFault number
-  absent : number ≡ 21 → NumberFault number
-
--- of its bytes n are there: for 21 none, at the end; for 1 all up to the end
-pub record BytesThere (s : List ℕ) (number place n : ℕ) : Type 0 where
-  pub none-there : number ≡ 21 → (place ≡ length s) × (n ≡ 0)
-  pub cut-there : number ≡ 1 → (0 < n) × (place + n ≡ length s)
-
+-- it is 1, 2, 3 or 21, and n of its bytes are there, of which the same is true as of a number in a column; one that is too large for a u32 is whole too
 pub record Unread (s : List ℕ) (r : TableReason) (n : ℕ) : Type 0 where
-  pub number : NumberFault (r .number)
   pub unread : UnreadAt s (r .number) (r .place) (r .row)
   pub is : n ≡ numberBytes 0 (drop (r .place) s)
-  pub there : BytesThere s (r .number) (r .place) n
+  pub broken : Broken s (r .number) (r .place) n
 
 -- ---- 11
 

@@ -6,6 +6,7 @@ pub mod Drawn
 pub mod EditedNames
 pub mod Entered
 pub mod Fits
+pub mod NamesLeft
 pub mod Pairs
 pub mod Passing
 pub mod Plain
