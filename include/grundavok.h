@@ -264,6 +264,16 @@ typedef struct {
     size_t len;     /* 24 */
 } grundavok_part;
 
+/* Which of two blocks shows a column: block is 1 for the corrections, 2 for the first scan, 0 where neither has the row. Where it lies there: len
+ * bytes from start on; or the refusal of the table of that block. 32 bytes. */
+typedef struct {
+    uint8_t number; /* 0 */
+    uint8_t block;  /* 1 */
+    size_t place;   /* 8 */
+    size_t start;   /* 16 */
+    size_t len;     /* 24 */
+} grundavok_layered;
+
 /* Where the new column of a new block goes, and how long the block is. 32 bytes. */
 typedef struct {
     uint8_t number; /* 0 */
@@ -503,6 +513,12 @@ grundavok_part grundavok_locate(const uint8_t *block, size_t block_len, size_t p
 
 /* Where the first column of exactly this specification lies; all 0 where there is none, which is no refusal. Refusals: table faults. */
 grundavok_part grundavok_locate_spec(const uint8_t *block, size_t block_len, uint32_t spec);
+
+/* Lookup by specification in two blocks, later corrections over a first scan: the first column of exactly this specification in the corrections if
+ * they have the row, also one of no bytes, which hides the older column; else in the first scan. block says in which, and 0, with all else 0, that
+ * neither has it. Refusals: table faults of the corrections, then of the first scan, which is judged even where the corrections have the row;
+ * block says whose they are. */
+grundavok_layered grundavok_locate_over(const uint8_t *corrections, size_t corrections_len, const uint8_t *first, size_t first_len, uint32_t spec);
 
 /* A new block in which the column at a position is to have `size` bytes, but for that column: the new table, the earlier columns, `size`
  * bytes left as they were from `at` on, the later columns. Refusals: table faults, 16, 10; out is then unchanged. */

@@ -2,6 +2,7 @@
 
 mod boolean;
 mod columns;
+mod corrections;
 mod delta;
 mod edited;
 mod edits;
@@ -38,7 +39,7 @@ pub struct Family {
     write: fn(&mut String, &Options, &mut Random),
 }
 
-pub const FAMILIES: [Family; 19] = [
+pub const FAMILIES: [Family; 20] = [
     Family {
         name: "numbers-short",
         about: "the four readers on all inputs of 0 to 2 bytes",
@@ -98,6 +99,11 @@ pub const FAMILIES: [Family; 19] = [
         name: "tables",
         about: "tables and blocks, sound and faulty ones: rows, columns by position and specification, frames",
         write: tables::all,
+    },
+    Family {
+        name: "corrections",
+        about: "two blocks, sound and faulty ones: a column by its specification, the corrections over the first scan",
+        write: corrections::all,
     },
     Family {
         name: "edits",

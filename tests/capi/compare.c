@@ -123,6 +123,11 @@ void part_is(int line, const char *call, grundavok_part r, uint8_t number, size_
     told(line, call, r.number == number && r.place == place && r.start == start && r.len == len);
 }
 
+void layered_is(int line, const char *call, grundavok_layered r, uint8_t number, uint8_t block, size_t place, size_t start, size_t len) {
+    calls++;
+    told(line, call, r.number == number && r.block == block && r.place == place && r.start == start && r.len == len);
+}
+
 void frame_is(int line, const char *call, grundavok_frame r, uint8_t number, size_t place, size_t at, size_t len) {
     calls++;
     told(line, call, r.number == number && r.place == place && r.at == at && r.len == len);

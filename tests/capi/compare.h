@@ -32,6 +32,7 @@ void form_is(int line, const char *call, grundavok_form r, uint8_t number, size_
 void reason_is(int line, const char *call, grundavok_reason is, grundavok_reason wanted);
 void spec_is(int line, const char *call, grundavok_specification r, uint8_t number, size_t place, uint32_t spec);
 void part_is(int line, const char *call, grundavok_part r, uint8_t number, size_t place, size_t start, size_t len);
+void layered_is(int line, const char *call, grundavok_layered r, uint8_t number, uint8_t block, size_t place, size_t start, size_t len);
 void frame_is(int line, const char *call, grundavok_frame r, uint8_t number, size_t place, size_t at, size_t len);
 void opened_is(int line, const char *call, grundavok_opened r, uint8_t number, size_t place, size_t start, const grundavok_table *table);
 void spliced_is(int line, const char *call, grundavok_spliced r, uint8_t number, size_t place, size_t len, const grundavok_table *table);
@@ -58,6 +59,7 @@ void left_is(int line, const char *what, const void *is, const void *wanted, siz
 #define REASON(call, ...) reason_is(__LINE__, #call, call, (grundavok_reason){__VA_ARGS__})
 #define SPEC(call, ...) spec_is(__LINE__, #call, call, __VA_ARGS__)
 #define PART(call, ...) part_is(__LINE__, #call, call, __VA_ARGS__)
+#define LAYERED(call, ...) layered_is(__LINE__, #call, call, __VA_ARGS__)
 #define FRAME(call, ...) frame_is(__LINE__, #call, call, __VA_ARGS__)
 #define OPENED(call, ...) opened_is(__LINE__, #call, call, __VA_ARGS__)
 #define SPLICED(call, ...) spliced_is(__LINE__, #call, call, __VA_ARGS__)

@@ -43,6 +43,16 @@ static void lookup(void) {
     PART(grundavok_locate_spec(SLICE(0x01, 0x1b, 0x00), 0x1b), 13, 0, 0, 0);
 }
 
+/* Corrections over a first scan: shown from either, hidden by a row of no bytes, in neither; and whose table is refused. */
+static void layers(void) {
+    LAYERED(grundavok_locate_over(SLICE(0x01, 0x13, 0x01, 0x00), TWO, 0x13), 0, 1, 0, 3, 1);
+    LAYERED(grundavok_locate_over(SLICE(0x01, 0x13, 0x00), TWO, 0x13), 0, 1, 0, 3, 0);
+    LAYERED(grundavok_locate_over(SLICE(0x01, 0x13, 0x00), TWO, 0x12), 0, 2, 0, 5, 2);
+    LAYERED(grundavok_locate_over(SLICE(0x01, 0x13, 0x00), TWO, 0x14), 0, 0, 0, 0, 0);
+    LAYERED(grundavok_locate_over(SLICE(0x01, 0x13, 0x80), SLICE(0x41), 0x13), 1, 1, 2, 0, 0);
+    LAYERED(grundavok_locate_over(SLICE(0x01, 0x13, 0x00), SLICE(0x41), 0x13), 11, 2, 0, 0, 0);
+}
+
 static void frames(void) {
     uint8_t out[11] = {OLD, OLD, OLD, OLD, OLD, OLD, OLD, OLD, OLD, OLD, OLD};
     FRAME(grundavok_put_frame(TWO, 2, 3, ALL(out)), 16, 0, 0, 0);
@@ -56,5 +66,6 @@ void tables(void) {
     reading();
     full();
     lookup();
+    layers();
     frames();
 }

@@ -16,6 +16,7 @@
 
 pub mod boolean;
 pub mod column_specification;
+pub mod corrections;
 pub mod delta;
 pub mod form;
 pub mod leb128;

@@ -148,6 +148,15 @@ pub struct Part {
 }
 
 #[repr(C)]
+pub struct Layered {
+    pub number: u8,
+    pub block: u8,
+    pub place: usize,
+    pub start: usize,
+    pub len: usize,
+}
+
+#[repr(C)]
 pub struct Frame {
     pub number: u8,
     pub place: usize,
@@ -359,6 +368,7 @@ extern "C" {
     pub fn grundavok_read_table(block: *const u8, block_len: usize) -> Opened;
     pub fn grundavok_locate(block: *const u8, block_len: usize, position: usize) -> Part;
     pub fn grundavok_locate_spec(block: *const u8, block_len: usize, spec: u32) -> Part;
+    pub fn grundavok_locate_over(corrections: *const u8, corrections_len: usize, first: *const u8, first_len: usize, spec: u32) -> Layered;
     pub fn grundavok_put_frame(block: *const u8, block_len: usize, position: usize, size: usize, out: *mut u8, out_len: usize) -> Frame;
 
     pub fn grundavok_table_reason(block: *const u8, block_len: usize) -> Reason;

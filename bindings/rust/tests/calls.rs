@@ -11,6 +11,7 @@ fn calls() {
 #[cfg(grundavok_linked)]
 mod calls {
     use grundavok::column_specification::{ColumnSpec, ColumnType};
+    use grundavok::corrections::{self, Layer};
     use grundavok::form::{self, Form};
     use grundavok::raw_column::{Frame, Row};
     use grundavok::reason::{self, About, Facts, Reason};
@@ -360,6 +361,19 @@ mod calls {
         assert_eq!(raw_column::column(&TWO, 2), refused(16, 0));
         assert_eq!(raw_column::bytes(&TWO, ColumnSpec(0x12)), Ok(&TWO[5..7]));
         assert_eq!(raw_column::bytes(&TWO, ColumnSpec(0x14)), Ok(&TWO[..0]));
+        assert_eq!(
+            corrections::bytes(&[0x01, 0x13, 0x00], &TWO, ColumnSpec(0x13)),
+            Ok(Some((Layer::Corrections, &TWO[..0])))
+        );
+        assert_eq!(
+            corrections::bytes(&[0x00], &TWO, ColumnSpec(0x13)),
+            Ok(Some((Layer::First, &TWO[7..9])))
+        );
+        assert_eq!(corrections::bytes(&[0x00], &TWO, ColumnSpec(0x14)), Ok(None));
+        assert_eq!(
+            corrections::bytes(&[0x01, 0x13, 0x00], &[0x41], ColumnSpec(0x13)),
+            Err((Layer::First, Refusal { number: 11, place: 0 }))
+        );
         let mut out = [0xee; 10];
         assert_eq!(raw_column::put_frame(&TWO, 0, 3, &mut out), Ok(Frame { at: 5, len: 10 }));
         assert_eq!(out, [0x02, 0x12, 0x03, 0x13, 0x02, 0xee, 0xee, 0xee, 0x7f, 0x05]);

@@ -9,6 +9,7 @@ use Rattle.column_specification.specs.Specification as packing
 use Rattle.encoding.specs.declared.Survey.{Survey as RawSurvey}
 use Rattle.salvage.specs.Salvage.{Outcome, saved, refusal}
 use Rattle.column_part.specs.declared.Part.{Part as RawPart}
+use Rattle.corrections.specs.Over.{Over, corrected, scanned, neither}
 use Rattle.block_frame.specs.declared.Frame.{Frame as RawFrame}
 use Rattle.capi.specs.declared.NumberU64.{NumberU64}
 use Rattle.capi.specs.declared.NumberI64.{NumberI64}
@@ -18,6 +19,7 @@ use Rattle.capi.specs.declared.Survey.{Survey}
 use Rattle.capi.specs.declared.Salvaged.{Salvaged}
 use Rattle.capi.specs.declared.Specification.{Specification}
 use Rattle.capi.specs.declared.Part.{Part}
+use Rattle.capi.specs.declared.Layered.{Layered}
 use Rattle.capi.specs.declared.Frame.{Frame}
 
 abbrev pub numberU64 : Got ℕ → NumberU64
@@ -52,6 +54,16 @@ specification (packing.refused r place) = record { number = r; place = place; sp
 -- the library's structs, field by field
 abbrev pub partAs : RawPart → Part
 partAs p = record { number = p .number; place = p .place; start = p .start; len = p .len }
+
+-- the same, of the block with this number
+abbrev pub partIn : ℕ → RawPart → Layered
+partIn block p = record { number = p .number; block = block; place = p .place; start = p .start; len = p .len }
+
+-- 02, [10]: "the answer says which block": 1 the corrections, 2 the first scan, 0 neither
+abbrev pub layeredAs : Over → Layered
+layeredAs (corrected p) = partIn 1 p
+layeredAs (scanned p) = partIn 2 p
+layeredAs neither = record { number = 0; block = 0; place = 0; start = 0; len = 0 }
 
 abbrev pub frameAs : RawFrame → Frame
 frameAs f = record { number = f .number; place = f .place; at = f .at; len = f .len }

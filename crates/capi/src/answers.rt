@@ -5,12 +5,14 @@ ghost use Rattle.leb128.specs.Cases.{u64Of, i64Of, u32Of};
 ghost use Rattle.leb128_writer.specs.Cases.{writtenOf};
 ghost use Rattle.column_specification.specs.Cases.{packingOf};
 ghost use Rattle.encoding.specs.Cases.{answerOf};
+ghost use Rattle.corrections.specs.Cases.{layeredOf};
 ghost use Rattle.salvage.specs.Salvage.{outcomeOf};
-ghost use Rattle.capi.specs.Cases.{numberU64, numberI64, numberU32, counted, surveyAs, salvagedAs, specification, partAs, frameAs};
+ghost use Rattle.capi.specs.Cases.{numberU64, numberI64, numberU32, counted, surveyAs, salvagedAs, specification, partAs, partIn, layeredAs, frameAs};
 ghost use Rattle.capi.specs.Cursors.{nextU64, nextI64, nextU8};
 ghost use Rattle.capi.specs.Pieces.{pieceU64, pieceI64, pieceU8};
 use crate::Counted;
 use crate::Frame;
+use crate::Layered;
 use crate::NextI64;
 use crate::NextU8;
 use crate::NextU64;
@@ -296,6 +298,35 @@ pub(crate) fn part(p: column_part::Part) -> Part
         place: p.place,
         start: p.start,
         len: p.len,
+    }
+}
+
+// A part, or a refusal, of the block with this number.
+fn part_in(block: u8, p: column_part::Part) -> Layered
+    ensures { λ r. ⌜ r ≡ partIn block p ⌝ }
+{
+    Layered {
+        number: p.number,
+        block: block,
+        place: p.place,
+        start: p.start,
+        len: p.len,
+    }
+}
+
+pub(crate) fn layered(l: corrections::Layered) -> Layered
+    ensures { λ r. ⌜ r ≡ layeredAs (layeredOf l) ⌝ }
+{
+    match l {
+        corrections::Layered::Corrections(p) => part_in(1, p),
+        corrections::Layered::First(p) => part_in(2, p),
+        corrections::Layered::Neither => Layered {
+            number: 0,
+            block: 0,
+            place: 0,
+            start: 0,
+            len: 0,
+        },
     }
 }
 

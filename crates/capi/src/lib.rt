@@ -176,6 +176,17 @@ pub struct Part {
     pub len: usize,
 }
 
+// Which of two blocks shows a column: `block` is 1 for the corrections, 2 for the first scan and 0 where neither has the row. Where it lies there; or the refusal of the
+// table of that block.
+#[repr(C)]
+pub struct Layered {
+    pub number: u8,
+    pub block: u8,
+    pub place: usize,
+    pub start: usize,
+    pub len: usize,
+}
+
 // Where the new column of a new block goes, and how long the block is.
 #[repr(C)]
 pub struct Frame {

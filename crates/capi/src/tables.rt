@@ -3,10 +3,12 @@ ghost use mathlib.Core.Path.{_≡_};
 ghost use lib.ListN.{length};
 ghost use Rattle.block_frame.specs.Frame.{framed, frameOf, frameOut};
 ghost use Rattle.column_part.specs.Part.{partAt, partFor};
+ghost use Rattle.corrections.specs.Over.{over};
 ghost use Rattle.raw_column.specs.Rows.{opened};
 ghost use Rattle.raw_column.specs.Table.{parse};
-ghost use Rattle.capi.specs.Cases.{partAs, frameAs};
+ghost use Rattle.capi.specs.Cases.{partAs, layeredAs, frameAs};
 use crate::Frame;
+use crate::Layered;
 use crate::Part;
 use crate::answers;
 use raw_column::Opened;
@@ -30,6 +32,13 @@ pub extern "C" fn grundavok_locate_spec(block: &[u8], spec: u32) -> Part
     ensures { λ r. ⌜ r ≡ partAs (partFor (now (block .entry)) spec) ⌝ }
 {
     answers::part(column_part::locate_spec(block, spec))
+}
+
+#[no_mangle]
+pub extern "C" fn grundavok_locate_over(corrections: &[u8], first: &[u8], spec: u32) -> Layered
+    ensures { λ r. ⌜ r ≡ layeredAs (over (now (corrections .entry)) (now (first .entry)) spec) ⌝ }
+{
+    answers::layered(corrections::locate(corrections, first, spec))
 }
 
 #[no_mangle]

@@ -1,4 +1,4 @@
-// The calls of the crates raw_column, column_part and block_frame. A table's rows are answered as lists, of specifications, starts and lengths.
+// The calls of the crates raw_column, column_part, corrections and block_frame. A table's rows are answered as lists, of specifications, starts and lengths.
 ghost use Prim.Native.Nat.{_≤_};
 use crate::fields;
 use crate::fields::Cursor;
@@ -8,6 +8,7 @@ use crate::reasons;
 use crate::words;
 use block_frame::Frame;
 use column_part::Part;
+use corrections::Layered;
 use raw_column::Opened;
 use raw_column::Table;
 
@@ -21,6 +22,9 @@ pub fn run(name: &[u8], line: &[u8], c: Cursor) -> Verdict {
     }
     if check::same(name, b"bytes") {
         return bytes_for(line, c);
+    }
+    if check::same(name, b"bytes_over") {
+        return bytes_over(line, c);
     }
     if check::same(name, b"put_frame") {
         return put_frame(line, c);
@@ -149,6 +153,57 @@ fn bytes_in(line: &[u8], c: Cursor, block: &[u8], spec: u32) -> Verdict {
 
 fn found(line: &[u8], c: Cursor, p: Part, part: &[u8]) -> Verdict {
     let at_start = fields::expect_refusal(line, c, p.number, p.place);
+    let at_len = fields::expect_number(line, at_start, p.start as u64);
+    let at_part = fields::expect_number(line, at_len, p.len as u64);
+    fields::judged(line, fields::expect_bytes(line, at_part, part))
+}
+
+// CORRECTIONS FIRST SPEC = NUMBER PLACE WHICH START LEN PART
+fn bytes_over(line: &[u8], c: Cursor) -> Verdict {
+    let mut later = io::buffer();
+    let mut older = io::buffer();
+    let b = fields::take_bytes(line, c, &mut later);
+    let f = fields::take_bytes(line, b.rest, &mut older);
+    let s = fields::take_number(line, f.rest, 0xffff_ffff);
+    let rest = s.rest;
+    if rest.broken {
+        return Verdict::Malformed;
+    }
+    let n = b.value as usize;
+    let m = f.value as usize;
+    over_in(
+        line,
+        rest,
+        words::between(&later, 0, n),
+        words::between(&older, 0, m),
+        narrowed(s.value),
+    )
+}
+
+fn over_in<'a>(line: &[u8], c: Cursor, later: &'a [u8], older: &'a [u8], spec: u32) -> Verdict {
+    let part = corrections::bytes(later, older, spec);
+    match corrections::locate(later, older, spec) {
+        Layered::Corrections(p) => found_in(line, c, 1, p, part),
+        Layered::First(p) => found_in(line, c, 2, p, part),
+        Layered::Neither => found_in(
+            line,
+            c,
+            0,
+            Part {
+                number: 0,
+                place: 0,
+                start: 0,
+                len: 0,
+                spec: 0,
+            },
+            part,
+        ),
+    }
+}
+
+fn found_in(line: &[u8], c: Cursor, which: u64, p: Part, part: &[u8]) -> Verdict {
+    let at_which = fields::expect_refusal(line, c, p.number, p.place);
+    let at_start = fields::expect_number(line, at_which, which);
     let at_len = fields::expect_number(line, at_start, p.start as u64);
     let at_part = fields::expect_number(line, at_len, p.len as u64);
     fields::judged(line, fields::expect_bytes(line, at_part, part))

@@ -39,6 +39,9 @@ fn say_writing(p: Pen) -> Pen {
   tablet rewrite FILE --to OUT [--over]
                                the block with every sound column in our form, as make and edit write it; says of each what
                                was done, and how many bytes are saved
+  tablet layer CORRECTIONS FIRST --to OUT [--over]
+                               one block of two: each column of CORRECTIONS, and those of FIRST that CORRECTIONS has no row for;
+                               a row without bytes in CORRECTIONS hides the older column
   tablet script FILE           runs each line of FILE as a command (without the word tablet; # begins a remark)
 ",
     )

@@ -18,6 +18,7 @@ mod given;
 mod help;
 mod kept;
 mod kinds;
+mod layer;
 mod lists;
 mod make;
 mod names;

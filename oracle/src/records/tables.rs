@@ -237,7 +237,7 @@ fn all_calls(out: &mut String, block: &[u8], specs: &[u32]) {
 }
 
 /// The block of these rows, with so much data more or less.
-fn block(rows: &[(u32, usize)], more: i64) -> Vec<u8> {
+pub fn block(rows: &[(u32, usize)], more: i64) -> Vec<u8> {
     let mut block = table::write(rows);
     let sum: usize = rows.iter().map(|row| row.1).sum();
     block.extend((0..sum as i64 + more).map(|i| 0xa0 + (i % 16) as u8));
@@ -357,7 +357,8 @@ pub fn damage(block: &mut Vec<u8>, random: &mut Random) {
     }
 }
 
-fn chance(out: &mut String, random: &mut Random) {
+/// A block by chance, in one of three damaged, and its specifications.
+pub fn chance_block(random: &mut Random) -> (Vec<u8>, Vec<u32>) {
     let rows = chance_rows(random);
     let mut block = table::write(&rows);
     for row in &rows {
@@ -371,11 +372,16 @@ fn chance(out: &mut String, random: &mut Random) {
     if random.below(3) == 0 {
         damage(&mut block, random);
     }
+    (block, rows.iter().map(|row| row.0).collect())
+}
+
+fn chance(out: &mut String, random: &mut Random) {
+    let (block, specs) = chance_block(random);
     // bytes of a record have their limit
     if block.len() > 4000 {
         return;
     }
-    let count = rows.len() as u64;
+    let count = specs.len() as u64;
     let position = match random.below(20) {
         0 => random.wide(),
         1 => count,
@@ -384,8 +390,8 @@ fn chance(out: &mut String, random: &mut Random) {
     match random.below(5) {
         0 | 1 => read_table(out, &block),
         2 => column(out, &block, position),
-        3 => match rows.get(position as usize) {
-            Some(row) => bytes(out, &block, row.0),
+        3 => match specs.get(position as usize) {
+            Some(&spec) => bytes(out, &block, spec),
             None => bytes(out, &block, chance_spec(random)),
         },
         _ => {
