@@ -18,12 +18,11 @@ pub extern "C" fn grundavok_leb128_u64(s: &[u8], at: usize) -> NumberU64
     answers::number_u64(leb128::leb128_u64(s, at))
 }
 
-// One number at a call: by its bytes, since the table of `leb128_i64` would be made anew for it. The promise is the same.
 #[no_mangle]
 pub extern "C" fn grundavok_leb128_i64(s: &[u8], at: usize) -> NumberI64
     ensures { λ r. ⌜ r ≡ numberI64 (i64At (now (s .entry)) at) ⌝ }
 {
-    answers::number_i64(leb128::i64_by_bytes(s, at))
+    answers::number_i64(leb128::leb128_i64(s, at))
 }
 
 #[no_mangle]

@@ -145,7 +145,7 @@ fn entered_at(column: &[u8], at: usize, had: u64) -> Reached
     if column.len() <= at {
         return Reached::Over;
     }
-    match run_head::head_at(column, at, had) {
+    match run_head::head_by_bytes(column, at, had) {
         Head::Repeat(c, q) => carried_at(column, q, had, c),
         Head::Literal(c, q) => Reached::On(Differences {
             at: q,

@@ -15,11 +15,12 @@ use lib.ListN.{length, getD}
 use borrow.Author.Tests.{lt-ltb, le-ltb}
 use Rattle.leb128.specs.Got.{Got, got, bad}
 use Rattle.leb128.specs.Read.{fill, signedOf, i64At}
+use Rattle.leb128.specs.Short.{entryOf}
 use Rattle.leb128.proofs.Two.{alone-i64, two-i64}
 use Rattle.encoding.specs.Walk.{cut}
 use Rattle.encoding.specs.Column.{present, literals}
 use Rattle.encoding.proofs.Columns.{literals-on, literals-off}
-use Rattle.delta_decoder.specs.Added.{summedAt, adding, Alone, Paired}
+use Rattle.delta_decoder.specs.Added.{summedAt, adding, overMark, Alone, Paired}
 use Rattle.delta_decoder.specs.Difference.{i64E}
 use Rattle.delta_decoder.specs.Sofar.{sumOf, plus, first, summing}
 use Rattle.delta_decoder.proofs.Kept.{plus-fall, plus-rise}
@@ -95,33 +96,55 @@ module _ (s : List ℕ) (at n : ℕ) (r : 16384 ≤ n) (t : n + 16384 < 2 ^ 64) 
       let p = plus-signed n (getD s at 0 - 128) 128 (getD s (suc at) 0) m (omega arith) (omega arith) r t e (sign-takes _ 16384 d) in
       ap (adding n at) (two-i64 s at h b d x) ∙ ap (summedAt at (at + 2)) p
 
--- the same by the code's sums: `high` is the second byte where it counts, `low` the first where it stands alone, `more` what a sign takes besides
-abbrev Down : ℕ → ℕ → ℕ → ℕ
-Down low high more = (low + high) / 64 * 128 + more
+-- the entry of a byte that stands alone, and of any other, above the mark
+over-alone : (b : ℕ) → b < 128 → overMark (entryOf b) ≡ b + 128 - b / 64 * 128
+over-alone b h = elim (decLt b 64) [
+  | yes k ↦ rw (lt-ltb b 64 k) (omega arith)
+  | no k ↦ let l : 64 ≤ b = omega arith in rw (le-ltb b 64 l, lt-ltb b 128 h) (omega arith)
+]
 
-abbrev Up : ℕ → ℕ → ℕ → ℕ
-Up n b high = n + (b % 128 + 128 * high)
+over-more : (b : ℕ) → 128 ≤ b → overMark (entryOf b) ≡ 0
+over-more b h = let l : 64 ≤ b = omega arith in rw (le-ltb b 64 l, le-ltb b 128 h)
 
-module _ (n b high low more : ℕ) (r : 16384 ≤ n) where
-  module _ (short : b < 128) (h : high ≡ 0) (l : low ≡ b % 128) (e : more ≡ 0) where
-    down-alone : Down low high more ≡ b / 64 * 128
-    down-alone = let p : b % 128 ≡ b = omega arith in rw (h, l, e, p) (omega arith)
+pub over-byte : (b : ℕ) → overMark (entryOf b) < 256
+over-byte b = elim (decLt b 128) [
+  | yes k ↦ let e = over-alone b k in omega (arith, e)
+  | no k ↦ let e = over-more b (omega arith) in omega (arith, e)
+]
 
-    pub room-alone : Down low high more ≤ Up n b high
-    room-alone = omega (arith, down-alone)
+-- the same by the code's sums: `low` and `high` are the bits of the first and the second byte where both count, `more` the mark where one stands alone
+abbrev Down : ℕ → ℕ → ℕ
+Down high more = more + high / 64 * 16384
 
-    pub sum-alone : Up n b high - Down low high more ≡ n + b - b / 64 * 128
-    sum-alone = rw down-alone (omega arith)
+abbrev Up : ℕ → ℕ → ℕ → ℕ → ℕ
+Up n e low high = n + (e + low + 128 * high)
 
-  module _ (d : ℕ) (first : 128 ≤ b) (byte : b < 256) (last : d < 128) (h : high ≡ d) (l : low ≡ 0) (e : more ≡ (low + high) / 64 * 16256) where
-    down-paired : Down low high more ≡ d / 64 * 16384
-    down-paired = rw (e, h, l) (omega arith)
+module _ (n b e high low more : ℕ) (r : 32768 ≤ n) (o : e ≡ overMark (entryOf b)) where
+  module _ (short : b < 128) (h : high ≡ 0) (l : low ≡ 0) (m : more ≡ 128) where
+    up-alone : Up n e low high ≡ n + (b + 128 - b / 64 * 128)
+    up-alone = let p = o ∙ over-alone b short in rw (h, l) (omega (arith, p))
 
-    pub room-paired : Down low high more ≤ Up n b high
-    room-paired = omega (arith, down-paired)
+    down-alone : Down high more ≡ 128
+    down-alone = rw (h, m) (omega arith)
 
-    pub sum-paired : Up n b high - Down low high more ≡ n + (b - 128 + 128 * d) - d / 64 * 16384
-    sum-paired = rw (down-paired, h) (omega arith)
+    pub room-alone : Down high more ≤ Up n e low high
+    room-alone = omega (arith, up-alone, down-alone)
+
+    pub sum-alone : Up n e low high - Down high more ≡ n + b - b / 64 * 128
+    sum-alone = rw (up-alone, down-alone) (omega arith)
+
+  module _ (d : ℕ) (first : 128 ≤ b) (byte : b < 256) (last : d < 128) (h : high ≡ d) (l : low ≡ b % 128) (m : more ≡ 0) where
+    up-paired : Up n e low high ≡ n + (b - 128 + 128 * d)
+    up-paired = let p = o ∙ over-more b first in rw (h, l, p) (omega arith)
+
+    down-paired : Down high more ≡ d / 64 * 16384
+    down-paired = rw (h, m) (omega arith)
+
+    pub room-paired : Down high more ≤ Up n e low high
+    room-paired = omega (arith, up-paired, down-paired)
+
+    pub sum-paired : Up n e low high - Down high more ≡ n + (b - 128 + 128 * d) - d / 64 * 16384
+    sum-paired = rw (up-paired, down-paired)
 
 -- what `only` promises
 abbrev Only : ℕ → ℕ → ℕ → Type 0
@@ -134,30 +157,30 @@ fill-is b = elim (decLt (b % 128) 64) [
   | no k ↦ let l : 64 ≤ b % 128 = omega arith in rw (le-ltb (b % 128) 64 l) (omega arith)
 ]
 
-module _ (n b d high low more : ℕ) (r : 16384 ≤ n) (byte : b < 256) (h : Only d (b / 128) high) (l : Only (b % 128) (1 - b / 128) low)
-    (m : Only ((low + high) / 64 * 16256) (b / 128) more) (small : high < 128) where
-  pub near-room : Down low high more ≤ Up n b high
+module _ (n b d e high low more : ℕ) (r : 32768 ≤ n) (byte : b < 256) (o : e ≡ overMark (entryOf b)) (h : Only d (b / 128) high)
+    (l : Only (b % 128) (b / 128) low) (m : Only 128 (1 - b / 128) more) (small : high < 128) where
+  pub near-room : Down high more ≤ Up n e low high
   near-room = elim (decLt b 128) [
-    | yes k ↦ let z : b / 128 ≡ 0 = omega arith in let o : 1 - b / 128 ≡ 1 = omega arith in
-        room-alone n b high low more r k (h .1 z) (l .2 o) (m .1 z)
-    | no k ↦ let o : b / 128 ≡ 1 = omega arith in let z : 1 - b / 128 ≡ 0 = omega arith in let k′ : 128 ≤ b = omega arith in
-        let f = h .2 o in let g : d < 128 = omega (arith, f) in
-        room-paired n b high low more r d k′ byte g f (l .1 z) (m .2 o)
+    | yes k ↦ let z : b / 128 ≡ 0 = omega arith in let w : 1 - b / 128 ≡ 1 = omega arith in
+        room-alone n b e high low more r o k (h .1 z) (l .1 z) (m .2 w)
+    | no k ↦ let w : b / 128 ≡ 1 = omega arith in let z : 1 - b / 128 ≡ 0 = omega arith in let k′ : 128 ≤ b = omega arith in
+        let f = h .2 w in let g : d < 128 = omega (arith, f) in
+        room-paired n b e high low more r o d k′ byte g f (l .2 w) (m .1 z)
   ]
 
   module _ (behind same : ℕ) (s : Only 256 (1 - b / 128) same) (x : d + same ≡ b % 128 / 64 * 127 → ⊥) where
-    pub near-is : Alone b behind n (Up n b high - Down low high more) (behind + b / 128)
-        ⊎ Paired b d behind n (Up n b high - Down low high more) (behind + b / 128)
+    pub near-is : Alone b behind n (Up n e low high - Down high more) (behind + b / 128)
+        ⊎ Paired b d behind n (Up n e low high - Down high more) (behind + b / 128)
     near-is = elim (decLt b 128) [
-      | yes k ↦ let z : b / 128 ≡ 0 = omega arith in let o : 1 - b / 128 ≡ 1 = omega arith in
-          inl (record { short = k; sum = sum-alone n b high low more r k (h .1 z) (l .2 o) (m .1 z); end = omega (arith, z) })
-      | no k ↦ let o : b / 128 ≡ 1 = omega arith in let z : 1 - b / 128 ≡ 0 = omega arith in let k′ : 128 ≤ b = omega arith in
-          let f = h .2 o in let g : d < 128 = omega (arith, f) in let q = s .1 z in
+      | yes k ↦ let z : b / 128 ≡ 0 = omega arith in let w : 1 - b / 128 ≡ 1 = omega arith in
+          inl (record { short = k; sum = sum-alone n b e high low more r o k (h .1 z) (l .1 z) (m .2 w); end = omega (arith, z) })
+      | no k ↦ let w : b / 128 ≡ 1 = omega arith in let z : 1 - b / 128 ≡ 0 = omega arith in let k′ : 128 ≤ b = omega arith in
+          let f = h .2 w in let g : d < 128 = omega (arith, f) in let q = s .1 z in
           inr (record {
             first = k′;
             last = g;
             strict = λ e. let y = fill-is b in x (omega (arith, q, e, y));
-            sum = sum-paired n b high low more r d k′ byte g f (l .1 z) (m .2 o);
-            end = omega (arith, o);
+            sum = sum-paired n b e high low more r o d k′ byte g f (l .2 w) (m .1 z);
+            end = omega (arith, w);
           })
     ]

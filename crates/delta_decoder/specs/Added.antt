@@ -3,7 +3,7 @@ use Prim.Native.Nat.{ℕ, _+_, _*_, _-_, _/_, _<_, _≤_}
 use mathlib.Core.Path.{_≡_}
 use mathlib.Core.Logic.{_⊎_}
 use mathlib.Core.Option.{Option, none, some}
-use lib.IntN.{ℤ}
+use lib.IntN.{ℤ, pos, negsuc}
 use Rattle.leb128.specs.Got.{Got, got, bad}
 use Rattle.leb128.specs.Read.{fill}
 use Rattle.delta_decoder.specs.Sofar.{plus}
@@ -25,6 +25,11 @@ adding n at (bad number place) = bad number place
 abbrev pub addedOf : Added → Got ℕ
 addedOf (to.To m next) = got m next
 addedOf (to.Off number place) = bad number place
+
+-- how far an entry of the table of numbers of one byte stands above the mark, -128
+abbrev pub overMark : ℤ → ℕ
+overMark (pos n) = n + 128
+overMark (negsuc n) = 127 - n
 
 -- an answer that is given at once is the one that is due
 abbrev pub Nearly : Near → Got ℕ → Type 0

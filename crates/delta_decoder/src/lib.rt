@@ -86,7 +86,7 @@ fn scan_literal(table: &[i8; 256], s: &[u8], q: usize, total: u64, c: u64, sum: 
     let mut left = c;
     let mut n = sum;
     while 0 < left {
-        match add_near(s, at, n) {
+        match add_near(table, s, at, n) {
             Near::To(m, next) => {
                 at = next;
                 left -= 1;
@@ -386,7 +386,7 @@ fn fill_literal(
     let mut left = c;
     let mut n = sum;
     while 0 < left {
-        match add_near(s, at, n) {
+        match add_near(table, s, at, n) {
             Near::To(m, next) => {
                 values[i] = sum_of(m);
                 present[i] = 1;

@@ -7,7 +7,7 @@ ghost use lib.Signed.{mag};
 ghost use Rattle.leb128.specs.Cases.{u64Of, i64Of, u32Of};
 ghost use Rattle.leb128.specs.Digits.{whole};
 ghost use Rattle.leb128.specs.Read.{signed, fill, u64At, endOf, i64At, u32At, nonzeroAt};
-ghost use Rattle.leb128.specs.Short.{short, i64By};
+ghost use Rattle.leb128.specs.Short.{short, entryOf, i64By};
 ghost use Rattle.leb128.specs.Sound.{Sound};
 
 // A number and the position behind it; or a refusal's number and place.
@@ -479,7 +479,7 @@ fn long_i64(s: &[u8], at: usize, first: u8) -> ParsedI64
     ParsedI64::Refused(1, at)
 }
 
-// The i64 at a position, or its refusal, by its bytes alone: for whoever reads one at a call and would make the table for it.
+// The i64 at a position, or its refusal, by its bytes alone: for the cursors, which read a number or two at a call and would make the table for each.
 pub fn i64_by_bytes(s: &[u8], at: usize) -> ParsedI64
     ensures { λ r. ⌜ i64Of r ≡ i64At (now (s .entry)) at ⌝ }
 {
@@ -510,17 +510,29 @@ pub fn i64_by(table: &[i8; 256], s: &[u8], at: usize) -> ParsedI64
     i64_by_bytes(s, at)
 }
 
-// The i64 at a position, or its refusal. The table is made where the first byte is the only one.
+// The entry of a first byte that stands alone: the table is made for it.
+fn short_of(place: usize) -> i64
+    requires { ⌜ place < 128 ⌝ }
+    ensures { λ r. ⌜ r ≡ entryOf place ⌝ }
+{
+    number_of(SHORT[place])
+}
+
+// The i64 at a position, or its refusal: a number of one byte from the table. Its entry is asked for at two places, since a function that is called
+// once is built into its caller whole, and then this one, with the table in it, is too large to be built into anything.
 pub fn leb128_i64(s: &[u8], at: usize) -> ParsedI64
     ensures { λ r. ⌜ i64Of r ≡ i64At (now (s .entry)) at ⌝ }
 {
     if at < s.len() {
         let b = s[at];
-        let first = place_of(b);
-        if first < 128 {
-            return ParsedI64::Number(number_of(SHORT[first]), at + 1);
+        let place = place_of(b);
+        if 128 <= place {
+            return long_i64(s, at, b);
         }
-        return long_i64(s, at, b);
+        if place < 64 {
+            return ParsedI64::Number(short_of(place), at + 1);
+        }
+        return ParsedI64::Number(short_of(place), at + 1);
     }
     ParsedI64::Refused(21, s.len())
 }

@@ -3,7 +3,9 @@ ghost use mathlib.Core.Path.{_≡_};
 ghost use Prim.Native.Nat.{_+_, _≤_, _<_};
 ghost use lib.ListN.{length, take, replicate};
 ghost use Rattle.leb128.specs.Answer.{done, within};
-ghost use Rattle.encoding.specs.Cases.{answerOf};
+ghost use Rattle.leb128.specs.Short.{short};
+ghost use Rattle.encoding.specs.Cases.{answerOf, headOf};
+ghost use Rattle.encoding.specs.Head.{headAt};
 ghost use Rattle.encoding.specs.Limit.{limit};
 ghost use Rattle.rewriting.specs.Cutter.{fedAll};
 ghost use Rattle.rewriting.specs.Rewritten.{rewrittenAs};
@@ -124,15 +126,32 @@ fn fed_repeat(
     }
 }
 
+// How the run at `at` begins, by the fixed table.
+fn head_of(table: &[i8; 256], s: &[u8], at: usize, had: u64) -> Head
+    requires { ⌜ now table ≡ short ⌝ }
+    ensures { λ r. ⌜ headOf r ≡ headAt (now (s .entry)) at had ⌝ }
+{
+    run_head::head_by(table, s, at, had)
+}
+
 // The run at `at`, behind `had` readings, up to the reading `most`.
-fn fed_run(s: &[u8], values: Values, c: Cutter, at: usize, had: u64, most: u64, room: u64) -> Fed
-    requires { ⌜ (at < length (now s)) × (had ≤ limit) × (had ≤ most) ⌝ }
+fn fed_run(
+    table: &[i8; 256],
+    s: &[u8],
+    values: Values,
+    c: Cutter,
+    at: usize,
+    had: u64,
+    most: u64,
+    room: u64,
+) -> Fed
+    requires { ⌜ (at < length (now s)) × (had ≤ limit) × (had ≤ most) × (now table ≡ short) ⌝ }
     requires { ⌜ Kept (now s) c had ⌝ }
     ensures { λ r. ⌜ fedAll plainE room (cutOf (now (s .entry)) c) (owedFrom (elementOf values .E) (now (s .entry)) most at had)
         ≡ fedAll plainE room (cutOf (now (s .entry)) (r .cutter)) (owedFrom (elementOf values .E) (now (s .entry)) most (r .at) (r .had)) ⌝ }
     ensures { λ r. ⌜ Kept (now (s .entry)) (r .cutter) (r .had) × (r .had ≤ limit) × (at < r .at) ⌝ }
 {
-    match run_head::head_at(s, at, had) {
+    match head_of(table, s, at, had) {
         Head::Repeat(n, q) => fed_repeat(s, values, c, q, had, n, most, room),
         Head::Literal(n, q) => fed_literals(s, values, c, q, had, n, most, room),
         Head::Absent(n, next) => Fed {
@@ -152,6 +171,7 @@ fn fed_run(s: &[u8], values: Values, c: Cutter, at: usize, had: u64, most: u64, 
 pub fn rewritten_len(s: &[u8], values: Values, most: u64, room: u64) -> Answer
     ensures { λ r. ⌜ answerOf r ≡ within 10 room (done (length (rewrittenAs values (now (s .entry)) most))) ⌝ }
 {
+    let table = leb128::short_numbers();
     let mut cutter = Cutter {
         used: Answer::Done(0),
         any: false,
@@ -165,7 +185,7 @@ pub fn rewritten_len(s: &[u8], values: Values, most: u64, room: u64) -> Answer
         if most <= had {
             return finished(s, cutter, room);
         }
-        let r = fed_run(s, values, cutter, at, had, most, room);
+        let r = fed_run(&table, s, values, cutter, at, had, most, room);
         cutter = r.cutter;
         at = r.at;
         had = r.had;

@@ -107,7 +107,7 @@ fn entered_at(column: &[u8], at: usize, had: u64) -> Reached
     if len <= at {
         return Reached::Over;
     }
-    match run_head::head_at(column, at, had) {
+    match run_head::head_by_bytes(column, at, had) {
         Head::Repeat(c, q) => carried_at(column, q, had, c),
         Head::Literal(c, q) => Reached::On(bare(len, q, had + c, c, LITERAL)),
         Head::Absent(c, next) => Reached::On(bare(len, next, had + c, c, ABSENT)),

@@ -84,6 +84,16 @@ fn begun_at(s: &[u8], at: usize, had: u64, c: i64, q: usize) -> Head
 pub fn head_at(s: &[u8], at: usize, had: u64) -> Head
     ensures { λ r. ⌜ headOf r ≡ headAt (now (s .entry)) at had ⌝ }
 {
+    match leb128::leb128_i64(s, at) {
+        ParsedI64::Number(c, q) => begun_at(s, at, had, c, q),
+        ParsedI64::Refused(n, place) => Head::Refused(n, place),
+    }
+}
+
+// The same by its bytes, for the cursors, which would make the table for each run.
+pub fn head_by_bytes(s: &[u8], at: usize, had: u64) -> Head
+    ensures { λ r. ⌜ headOf r ≡ headAt (now (s .entry)) at had ⌝ }
+{
     match leb128::i64_by_bytes(s, at) {
         ParsedI64::Number(c, q) => begun_at(s, at, had, c, q),
         ParsedI64::Refused(n, place) => Head::Refused(n, place),

@@ -39,7 +39,7 @@ pub fn value_end(s: &[u8], values: Values, q: usize) -> ValueEnd
             ParsedU64::Number(_, next) => ValueEnd::At(next),
             ParsedU64::Refused(n, place) => ValueEnd::Refused(n, place),
         },
-        Values::Differences => match leb128::i64_by_bytes(s, q) {
+        Values::Differences => match leb128::leb128_i64(s, q) {
             ParsedI64::Number(_, next) => ValueEnd::At(next),
             ParsedI64::Refused(n, place) => ValueEnd::Refused(n, place),
         },

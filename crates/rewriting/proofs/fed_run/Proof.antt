@@ -13,8 +13,8 @@ use Rattle.rewriting.proofs.Owing.{owed-repeat, owed-literal, owed-amis
 use Rattle.rewriting.proofs.fed_run.Statement.{statement}
 use Rattle.rewriting.proofs.fed_run.Tie as tie
 
-head-at-requires : tie.Need-head-at-requires
-head-at-requires c κs = search needs
+head-of-requires : tie.Need-head-of-requires
+head-of-requires c κs = search needs
 
 enum-known-n : tie.Need-enum-known-n
 enum-known-n c = search needs
@@ -22,7 +22,7 @@ enum-known-n c = search needs
 fed-repeat-requires : tie.Need-fed-repeat-requires
 fed-repeat-requires c κs =
     let p = c .before .before .before .before .before .pre in
-    let h = head-known _ _ _ _ (via headOf (c .before .before .before .head-at .ensures) (c .before .n .given .1)) in
+    let h = head-known _ _ _ _ (via headOf (c .before .before .before .head-of .ensures) (c .before .n .given .1)) in
     ((h .2, p .0 .2, h .1), p .1)
 
 enum-known-n-2 : tie.Need-enum-known-n-2
@@ -30,7 +30,7 @@ enum-known-n-2 c = search needs
 
 fed-literals-requires : tie.Need-fed-literals-requires
 fed-literals-requires c κs =
-    let h = head-known _ _ _ _ (via headOf (c .before .before .before .head-at .ensures) (c .before .n2 .given .1)) in
+    let h = head-known _ _ _ _ (via headOf (c .before .before .before .head-of .ensures) (c .before .n2 .given .1)) in
     ((h .2, h .1), c .before .before .before .before .before .pre .1)
 
 enum-known-n-3 : tie.Need-enum-known-n-3
@@ -42,12 +42,12 @@ sub-fed-same c = search needs
 fed-same-requires : tie.Need-fed-same-requires
 fed-same-requires c κs =
     let k = c .before .before .before .before .before .pre .1 in
-    let h = head-known _ _ _ _ (via headOf (c .before .before .before .head-at .ensures) (c .before .n3 .given .1)) in
+    let h = head-known _ _ _ _ (via headOf (c .before .before .before .head-of .ensures) (c .before .n3 .given .1)) in
     (k .inside, tt, omega (arith, k .few, h .2))
 
-add-t19 : tie.Need-add-t19
-add-t19 c =
-    let h = head-known _ _ _ _ (via headOf (c .before .before .before .before .head-at .ensures) (c .before .before .n3 .given .1)) in
+add-t20 : tie.Need-add-t20
+add-t20 c =
+    let h = head-known _ _ _ _ (via headOf (c .before .before .before .before .head-of .ensures) (c .before .before .n3 .given .1)) in
     omega (arith, h .2)
 
 enum-told : tie.Need-enum-told
@@ -60,7 +60,7 @@ returns c =
     let E = elementOf (a .values) .E in
     let L = elementLaws (a .values) in
     let p = c .before .before .before .before .before .before .pre in
-    let r = via headOf (c .before .before .before .before .head-at .ensures) (c .before .before .n .given .1) in
+    let r = via headOf (c .before .before .before .before .head-of .ensures) (c .before .before .n .given .1) in
     let h = head-known _ _ _ _ r in
     let f = c .fed-repeat .ensures in (
       ap (fedAll plainE (a .room) _) (owed-repeat E s (a .most) L _ _ (p .0 .0) _ _ r) ∙ f .0,
@@ -74,7 +74,7 @@ returns-2 c =
     let E = elementOf (a .values) .E in
     let L = elementLaws (a .values) in
     let p = c .before .before .before .before .before .before .pre in
-    let r = via headOf (c .before .before .before .before .head-at .ensures) (c .before .before .n2 .given .1) in
+    let r = via headOf (c .before .before .before .before .head-of .ensures) (c .before .before .n2 .given .1) in
     let h = head-known _ _ _ _ r in
     let f = c .fed-literals .ensures in (
       ap (fedAll plainE (a .room) _) (owed-literal E s (a .most) L _ _ (p .0 .0) _ _ r) ∙ f .0,
@@ -88,7 +88,7 @@ returns-3 c =
     let E = elementOf (a .values) .E in
     let L = elementLaws (a .values) in
     let p = c .before .before .before .before .before .before .pre in
-    let r = via headOf (c .before .before .before .before .head-at .ensures) (c .before .before .n3 .given .1) in
+    let r = via headOf (c .before .before .before .before .head-of .ensures) (c .before .before .n3 .given .1) in
     let h = head-known _ _ _ _ r in
     let f = c .fed-same .ensures in (
       fed-absent E L s (a .most) (a .room) _ _ _ _ _ _ (p .0 .0) r (f .0),
@@ -102,7 +102,7 @@ returns-4 c =
     let E = elementOf (a .values) .E in
     let L = elementLaws (a .values) in
     let p = c .before .before .before .before .pre in
-    let r = via headOf (c .before .before .head-at .ensures) (c .enum-told .given .1) in (
+    let r = via headOf (c .before .before .head-of .ensures) (c .enum-told .given .1) in (
       ap (fedAll plainE (a .room) _) (owed-amiss E s (a .most) L _ _ (p .0 .0) _ _ r),
       (p .1, p .0 .1, p .0 .0),
     )
@@ -111,7 +111,7 @@ pub fed-run-spec : {M : Type 1} → statement M
 fed-run-spec =
     tie.close
     (tie.spec
-    head-at-requires
+    head-of-requires
     enum-known-n
     fed-repeat-requires
     enum-known-n-2
@@ -119,7 +119,7 @@ fed-run-spec =
     enum-known-n-3
     sub-fed-same
     fed-same-requires
-    add-t19
+    add-t20
     enum-told
     returns
     returns-2

@@ -1,4 +1,4 @@
--- `run_head::head_at` meets its contract: the count is read by its bytes, and opens the run. Assumes nothing.
+-- `run_head::head_at` meets its contract: the count is read, and opens the run. Assumes nothing.
 use mathlib.Core.Path.{_∙_}
 use lib.IntN.{ℤ}
 use mir.Syntax.{w64}
@@ -12,8 +12,8 @@ use Rattle.encoding.proofs.Via.{via}
 use Rattle.run_head.proofs.head_at.Statement.{statement}
 use Rattle.run_head.proofs.head_at.Tie as tie
 
-i64-by-bytes-requires : tie.Need-i64-by-bytes-requires
-i64-by-bytes-requires c κs = search needs
+leb128-i64-requires : tie.Need-leb128-i64-requires
+leb128-i64-requires c κs = search needs
 
 enum-known-c : tie.Need-enum-known-c
 enum-known-c c = search needs
@@ -29,11 +29,11 @@ returns c =
     let a = c .before .before in
     let x : ℤ = a .c .given .0 .0 in
     let f : SFits w64 x = search needs in
-    c .begun-at .ensures ∙ passed _ _ _ _ (same x f) ∙ head-read _ _ _ (via i64Of (a .before .before .i64-by-bytes .ensures) (a .c .given .1))
+    c .begun-at .ensures ∙ passed _ _ _ _ (same x f) ∙ head-read _ _ _ (via i64Of (a .before .before .leb128-i64 .ensures) (a .c .given .1))
 
 returns-2 : tie.Need-returns-2
 unfolding begun
-returns-2 c = head-read _ _ _ (via i64Of (c .before .before .before .i64-by-bytes .ensures) (c .before .n .given .1))
+returns-2 c = head-read _ _ _ (via i64Of (c .before .before .before .leb128-i64 .ensures) (c .before .n .given .1))
 
 pub head-at-spec : {M : Type 1} → statement M
-head-at-spec = tie.close (tie.spec i64-by-bytes-requires enum-known-c begun-at-requires enum-known-n returns returns-2)
+head-at-spec = tie.close (tie.spec leb128-i64-requires enum-known-c begun-at-requires enum-known-n returns returns-2)

@@ -24,8 +24,8 @@ enum-known-n c = search needs
 enum-told-2 : tie.Need-enum-told-2
 enum-told-2 c = search needs
 
-i64-by-bytes-requires : tie.Need-i64-by-bytes-requires
-i64-by-bytes-requires c κs = search needs
+leb128-i64-requires : tie.Need-leb128-i64-requires
+leb128-i64-requires c κs = search needs
 
 enum-known-next-2 : tie.Need-enum-known-next-2
 enum-known-next-2 c = search needs
@@ -62,12 +62,12 @@ returns-2 c =
 
 returns-3 : tie.Need-returns-3
 returns-3 c =
-    let r = via i64Of (c .before .before .before .i64-by-bytes .ensures) (c .before .next2 .given .1) in
+    let r = via i64Of (c .before .before .before .leb128-i64 .ensures) (c .before .next2 .given .1) in
     read-as _ _ _ _ (c .before .before .before .before .enum-told2 .given .1) r
 
 returns-4 : tie.Need-returns-4
 returns-4 c =
-    let r = via i64Of (c .before .before .before .i64-by-bytes .ensures) (c .before .n2 .given .1) in
+    let r = via i64Of (c .before .before .before .leb128-i64 .ensures) (c .before .n2 .given .1) in
     read-as _ _ _ _ (c .before .before .before .before .enum-told2 .given .1) r
 
 returns-5 : tie.Need-returns-5
@@ -89,7 +89,7 @@ value-end-spec =
     enum-known-next
     enum-known-n
     enum-told-2
-    i64-by-bytes-requires
+    leb128-i64-requires
     enum-known-next-2
     enum-known-n-2
     enum-told-3

@@ -5,14 +5,14 @@ use borrow.Author.Needs.{needs}
 use Rattle.capi.proofs.numbers.grundavok_leb128_i64.Statement.{statement}
 use Rattle.capi.proofs.numbers.grundavok_leb128_i64.Tie as tie
 
-i64-by-bytes-requires : tie.Need-i64-by-bytes-requires
-i64-by-bytes-requires c κs = search needs
+leb128-i64-requires : tie.Need-leb128-i64-requires
+leb128-i64-requires c κs = search needs
 
 number-i64-requires : tie.Need-number-i64-requires
 number-i64-requires c κs = search needs
 
 returns : tie.Need-returns
-returns c = c .number-i64 .ensures ∙ ap numberI64 (c .before .i64-by-bytes .ensures)
+returns c = c .number-i64 .ensures ∙ ap numberI64 (c .before .leb128-i64 .ensures)
 
 pub grundavok-leb128-i64-spec : {M : Type 1} → statement M
-grundavok-leb128-i64-spec = tie.close (tie.spec i64-by-bytes-requires number-i64-requires returns)
+grundavok-leb128-i64-spec = tie.close (tie.spec leb128-i64-requires number-i64-requires returns)

@@ -1,16 +1,20 @@
 -- `delta_decoder::added::add_near` meets its contract: what the first two bytes say. Assumes nothing.
-use mathlib.Core.Path.{_∙_, ap}
+use mathlib.Core.Path.{_≡_, sym, _∙_, ap}
 use mathlib.Core.List.{List}
 use mathlib.Core.Logic.{inl, inr}
 use Prim.Native.Nat.{ℕ, suc, _+_, _^_, _≤_, _<_}
 use native.Mathlib.Numerals.{add-one}
 use native.Mathlib.Omega.{arith}
 use denote.Ref.{now}
+use lib.IntN.{ℤ, pos}
 use lib.ListN.{length, getD}
 use borrow.Author.Needs.{needs}
 use Rattle.leb128.specs.Got.{got}
 use Rattle.leb128.specs.Read.{i64At}
-use Rattle.delta_decoder.specs.Added.{adding, Nearly, NearBytes}
+use Rattle.leb128.specs.Short.{entryOf}
+use Rattle.leb128.proofs.Lookup.{rule}
+use Rattle.leb128.proofs.Twos.{same-byte}
+use Rattle.delta_decoder.specs.Added.{adding, overMark, Nearly, NearBytes}
 use Rattle.delta_decoder.specs.declared.added.Near.{Near}
 use Rattle.delta_decoder.specs.declared.added.Near.the-variants as variant
 use Rattle.delta_decoder.proofs.Adding.{near-alone, near-paired}
@@ -42,26 +46,42 @@ add-behind c = search needs
 returns-4 : tie.Need-returns-4
 returns-4 c = search needs
 
+shared-slice-read-first : tie.Need-shared-slice-read-first
+shared-slice-read-first c = search needs
+
+place-of-requires : tie.Need-place-of-requires
+place-of-requires c κs = search needs
+
+element-copy-out-over-mark : tie.Need-element-copy-out-over-mark
+element-copy-out-over-mark c = search needs
+
+over-mark-requires : tie.Need-over-mark-requires
+over-mark-requires c κs = search needs
+
 shared-slice-read-wide : tie.Need-shared-slice-read-wide
 shared-slice-read-wide c = search needs
 
 wide-requires : tie.Need-wide-requires
 wide-requires c κs = search needs
 
-shared-slice-read-wide-2 : tie.Need-shared-slice-read-wide-2
-shared-slice-read-wide-2 c = search needs
-
 wide-requires-2 : tie.Need-wide-requires-2
 wide-requires-2 c κs = search needs
 
 near-bytes-requires : tie.Need-near-bytes-requires
-near-bytes-requires c κs = search needs
+near-bytes-requires c κs =
+    let a = c .before .before .before .before .before .before .before .before .before .before .before .before in
+    let e = c .before .before .before .over-mark in
+    let b = c .before .before .before .before .before .place-of in
+    let x : ℤ = getD (now (a .args .table)) (b .result) (pos 0) in
+    let f : x ≡ entryOf (c .wide2 .result) =
+    ap (λ t. getD t (b .result) (pos 0)) (a .pre) ∙ rule (b .result) (b .ensures .1) ∙ ap entryOf (b .ensures .0 ∙ sym (c .wide2 .ensures .0)) in
+    (search needs, e .ensures ∙ ap overMark (same-byte x (c .before .before .before .before .over-mark-arg .given) ∙ f))
 
 returns-5 : tie.Need-returns-5
 returns-5 c =
-    let a = c .before .before .before .before .before .before .before .before .before .before in
-    let b = c .before .before .before .wide .ensures in
-    let d = c .before .wide2 .ensures in
+    let a = c .before .before .before .before .before .before .before .before .before .before .before .before .before in
+    let d = c .before .before .wide .ensures in
+    let b = c .before .wide2 .ensures in
     says (now (a .args .s)) (a .args .at) (a .args .n) (omega arith) (omega arith) (omega arith) (omega arith) (c .near-bytes .result)
     (rw (b .0, d .0, add-one) at (c .near-bytes .ensures))
 
@@ -75,9 +95,12 @@ add-near-spec =
     returns-3
     add-behind
     returns-4
+    shared-slice-read-first
+    place-of-requires
+    element-copy-out-over-mark
+    over-mark-requires
     shared-slice-read-wide
     wide-requires
-    shared-slice-read-wide-2
     wide-requires-2
     near-bytes-requires
     returns-5)
