@@ -176,8 +176,8 @@ pub struct Part {
     pub len: usize,
 }
 
-// Which of two blocks shows a column: `block` is 1 for the corrections, 2 for the first scan and 0 where neither has the row. Where it lies there; or the refusal of the
-// table of that block.
+// Which of two blocks shows a column: `block` is 1 for the corrections, 2 for the first scan and 0 where neither has the row. Where it lies there; or the
+// refusal of the table of that block.
 #[repr(C)]
 pub struct Layered {
     pub number: u8,

@@ -1,5 +1,5 @@
--- Lookups worked out from 02 by hand, against the definitions: whose fault is told, also where the corrections have the row; a correction row of length 0; the first of two
--- rows of one number; and neither. Assumes nothing.
+-- Lookups worked out from 02 by hand, against the definitions: whose fault is told, also where the corrections have the row; a correction row of
+-- length 0; the first of two rows of one number; and neither. Assumes nothing.
 use mathlib.Core.Path.{_≡_, refl}
 use mathlib.Core.List.{List, [], _∷_}
 use Prim.Native.Nat.{ℕ}

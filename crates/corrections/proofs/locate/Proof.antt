@@ -19,22 +19,33 @@ locate-spec-requires-2 c κs = search needs
 returns-2 : tie.Need-returns-2
 returns-2 c =
     let a = c .before .before .before .before .before .before .before .before .args in
-    over-refused-first (now (a .corrections)) (now (a .first)) (a .spec) (c .before .before .before .before .before .locate-spec .ensures) (c .before .before .locate-spec2 .ensures) (c .before .before .before .if1 .left) (c .if2 .taken)
+    let in-corrections = c .before .before .before .before .before .locate-spec .ensures in
+    let in-first = c .before .before .locate-spec2 .ensures in
+    over-refused-first (now (a .corrections)) (now (a .first)) (a .spec) in-corrections in-first (c .before .before .before .if1 .left) (c .if2 .taken)
 
 returns-3 : tie.Need-returns-3
 returns-3 c =
     let a = c .before .before .before .before .before .before .before .before .before .before .args in
-    over-corrected (now (a .corrections)) (now (a .first)) (a .spec) (c .before .before .before .before .before .before .before .locate-spec .ensures) (c .before .before .before .before .locate-spec2 .ensures) (c .before .before .before .before .before .if1 .left) (c .before .before .if2 .left) (c .if3 .taken)
+    let in-corrections = c .before .before .before .before .before .before .before .locate-spec .ensures in
+    let in-first = c .before .before .before .before .locate-spec2 .ensures in
+    over-corrected (now (a .corrections)) (now (a .first)) (a .spec) in-corrections in-first (c .before .before .before .before .before .if1 .left)
+    (c .before .before .if2 .left) (c .if3 .taken)
 
 returns-4 : tie.Need-returns-4
 returns-4 c =
     let a = c .before .before .before .before .before .before .before .before .before .before .before .before .args in
-    over-neither (now (a .corrections)) (now (a .first)) (a .spec) (c .before .before .before .before .before .before .before .before .before .locate-spec .ensures) (c .before .before .before .before .before .before .locate-spec2 .ensures) (c .before .before .before .before .before .before .before .if1 .left) (c .before .before .before .before .if2 .left) (c .before .before .if3 .left) (c .if4 .taken)
+    let in-corrections = c .before .before .before .before .before .before .before .before .before .locate-spec .ensures in
+    let in-first = c .before .before .before .before .before .before .locate-spec2 .ensures in
+    over-neither (now (a .corrections)) (now (a .first)) (a .spec) in-corrections in-first
+    (c .before .before .before .before .before .before .before .if1 .left) (c .before .before .before .before .if2 .left) (c .before .before .if3 .left) (c .if4 .taken)
 
 returns-5 : tie.Need-returns-5
 returns-5 c =
     let a = c .before .before .before .before .before .before .before .before .before .before .before .before .args in
-    over-scanned (now (a .corrections)) (now (a .first)) (a .spec) (c .before .before .before .before .before .before .before .before .before .locate-spec .ensures) (c .before .before .before .before .before .before .locate-spec2 .ensures) (c .before .before .before .before .before .before .before .if1 .left) (c .before .before .before .before .if2 .left) (c .before .before .if3 .left) (c .if4 .left)
+    let in-corrections = c .before .before .before .before .before .before .before .before .before .locate-spec .ensures in
+    let in-first = c .before .before .before .before .before .before .locate-spec2 .ensures in
+    over-scanned (now (a .corrections)) (now (a .first)) (a .spec) in-corrections in-first
+    (c .before .before .before .before .before .before .before .if1 .left) (c .before .before .before .before .if2 .left) (c .before .before .if3 .left) (c .if4 .left)
 
 pub locate-spec : {M : Type 1} → statement M
 locate-spec =
