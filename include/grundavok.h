@@ -1,4 +1,5 @@
-/* The column encodings of Automerge documents, proved: numbers, specifications, columns, salvage, forms, tables, reasons and edits.
+/* The column encodings of Automerge documents, proved: numbers, specifications, columns, salvage, replay, forms, tables, reasons
+ * and edits.
  *
  * Link libcapi.a, which `rt staticlib capi` writes (x86-64 Linux). The functions call nothing but memcpy and memset, allocate nothing,
  * keep nothing and share nothing: any two may run at once on different buffers.
@@ -38,13 +39,15 @@
  *  19  column id of 2^28 or more                                    0
  *  20  a name that is not UTF-8 (RFC 3629)                          its length number; of a given list the index
  *  21  no byte where a number is due                                the length, where its first byte would be
+ *  23  an entry of a log: unknown kind, cut, or bad position        the entry's first byte
  *  24  a cursor for a column of another length, or beyond its end   0
  *
  * Places inside a column count from the column's first byte. A copy that ends between two numbers gets 21, one that ends within a number, or
  * with too few bytes of a name, 1; but a column whose bytes end where a run would begin is whole.
  *
  * WHAT IS LEFT BEHIND: on success an output holds the result at its front and is otherwise unchanged; decoded readings fill the first
- * slots, the rest unchanged. A refusal changes neither, but for an edit that is refused with 7 or 10 (see there; not of names).
+ * slots, the rest unchanged. A refusal changes neither, but for an edit or a replay that is refused with 7 or 10 (see there; not
+ * of names).
  *
  * A COLUMN CAN ANNOUNCE MORE THAN YOU WILL HOLD: the six bytes ff ff ff ff 0f 05 are a sound column of 4,294,967,295 readings. Before you
  * make slots for a column whose bytes you do not trust, ask its count, which costs what its bytes cost, and compare it with the most
@@ -122,6 +125,25 @@ typedef struct {
     uint64_t kept;      /* 24 */
     size_t written;     /* 32 */
 } grundavok_salvaged;
+
+/* An entry of the pen's log: kind is 1, 2, 3 or 4, position its place in the list, depth that of kinds 1 and 4 and else 0, next the position of the log behind
+ * it. 32 bytes. */
+typedef struct {
+    uint8_t number;    /* 0 */
+    uint8_t kind;      /* 1 */
+    uint32_t position; /* 4 */
+    size_t place;      /* 8 */
+    int64_t depth;     /* 16 */
+    size_t next;       /* 24 */
+} grundavok_entry;
+
+/* A replay: how many readings the final list has, and how many bytes were written. 32 bytes. */
+typedef struct {
+    uint8_t number;    /* 0 */
+    size_t place;      /* 8 */
+    uint64_t readings; /* 16 */
+    size_t written;    /* 24 */
+} grundavok_replayed;
 
 /* Whether a column is in our form: ours is 1, or 0 where it is not, and then differs is the place of the first byte that differs. 24 bytes. */
 typedef struct {
@@ -491,6 +513,33 @@ grundavok_salvaged grundavok_boolean_salvage(uint8_t typ, const uint8_t *s, size
 grundavok_salvaged grundavok_text_salvage(uint8_t typ, const uint8_t *s, size_t s_len, uint64_t *starts, size_t starts_len,
                                           uint64_t *lens, size_t lens_len, uint8_t *present, size_t present_len, uint8_t *out,
                                           size_t out_len);
+
+/* ---- Replay: the pen's log of a tracing session, over a delta column ---- */
+
+/* A log is a row of entries. An entry is a byte of kind, a position of four bytes and, for kinds 1 and 4, a depth of eight, an int64_t in two's complement;
+ * both lowest byte first. Kind 1 inserts a depth before the reading at the position, 2 inserts an absent reading, 3 removes a reading, 4 changes it to a depth.
+ * An insert may stand at the list's end; the others must name a reading that is there, be it an absent one. */
+
+/* The entry at a position of the log. Refusal: 23 where the kind is unknown or the entry is cut, place `at`; whether the list has the position is asked by
+ * the replay. To go through a log:
+ *
+ *     for (size_t at = 0; at < n; at = e.next) {
+ *         e = grundavok_log_entry(log, n, at);
+ *         if (e.number != 0) return bad_entry(e.place);
+ *         ..
+ *     }
+ */
+grundavok_entry grundavok_log_entry(const uint8_t *log, size_t log_len, size_t at);
+
+/* The column with the whole log replayed over it, written once, at the front of out; readings is how many the final list has, written how many bytes.
+ * Refusals, in this order: 8; the column's faults; 9 where slots are fewer than the column's readings; then entry by entry 23, place the entry's first byte,
+ * 5 and 9 for the list behind it; then 7, place the index in the final list, and 10.
+ * What is left behind: on success, and on 7 or 10, the slots hold the final list, then absent zeros up to the longest list on the way, the column's own
+ * counted; the rest is unchanged. Any other refusal changes nothing; out is as it was on every refusal.
+ * Slots: as many as the longest list; the column's count and log_len / 5 always do. Output: 11 bytes a reading always do.
+ * An insert or a removal moves what is behind it, so that a log costs by its entries times the list; a change does not. */
+grundavok_replayed grundavok_delta_replay(const uint8_t *column, size_t column_len, const uint8_t *log, size_t log_len, int64_t *values,
+                                          size_t values_len, uint8_t *present, size_t present_len, uint8_t *out, size_t out_len);
 
 /* ---- Form: is a column what encode gives for the list it reads as? ---- */
 

@@ -398,6 +398,55 @@ fn edits(rows: &mut Rows, n: usize) {
     rows.row("edit of a boolean column, middle", n, n, || ours(&mut v, &mut out), rust);
 }
 
+/// A log of 10,000 entries over a list of n readings: inserts, absent ones, removals and changes, at places by chance or as a pen goes along. The Rust's side
+/// decodes, applies them to its `Vec` and encodes.
+fn replays(rows: &mut Rows, n: usize) {
+    for (place, step) in [("by chance", None), ("along the stroke", Some(7))] {
+        let mut random = Random(n as u64);
+        let mut log = Vec::new();
+        let mut length = n;
+        for k in 0..10_000u32 {
+            let kind = [1, 4, 3, 2, 3, 4][k as usize % 6];
+            let at = step.map_or(random.below(length as u64) as usize, |step| k as usize * step % length);
+            log.push(kind);
+            log.extend((at as u32).to_le_bytes());
+            if kind == 1 || kind == 4 {
+                log.extend((random.below(200) as i64 - 50).to_le_bytes());
+            }
+            length = if kind < 3 { length + 1 } else { length - usize::from(kind == 3) };
+        }
+        let column = delta::encode(&stroke("smooth", n));
+        let rust = || {
+            let mut list = delta::decode(black_box(&column), usize::MAX).unwrap();
+            let mut at = 0;
+            while at < log.len() {
+                let i = u32::from_le_bytes(log[at + 1..at + 5].try_into().unwrap()) as usize;
+                let depth = |at: usize| Some(i64::from_le_bytes(log[at + 5..at + 13].try_into().unwrap()));
+                match log[at] {
+                    1 => list.insert(i, depth(at)),
+                    2 => list.insert(i, None),
+                    3 => drop(list.remove(i)),
+                    _ => list[i] = depth(at),
+                }
+                at += if log[at] == 1 || log[at] == 4 { 13 } else { 5 };
+            }
+            delta::encode(&list)
+        };
+        let want = rust();
+        let (mut v, mut p, mut out) = (vec![0i64; n + 10_000], vec![0u8; n + 10_000], vec![0u8; want.len() + 8]);
+        let len = ours::replay(&column, &log, &mut v, &mut p, &mut out);
+        assert_eq!(&out[..len], &want[..]);
+        let name = format!("replay of 10,000, {place}");
+        rows.row(
+            &name,
+            n,
+            10_000,
+            || ours::replay(black_box(&column), &log, &mut v, &mut p, &mut out),
+            rust,
+        );
+    }
+}
+
 fn main() {
     let words: Vec<String> = std::env::args().skip(1).collect();
     let best = Best::new(&words);
@@ -424,6 +473,9 @@ fn main() {
     }
     for n in SIZES {
         edits(&mut rows, n);
+    }
+    for n in [1_000, 10_000, 100_000] {
+        replays(&mut rows, n);
     }
     rows.said();
 }

@@ -95,3 +95,9 @@ pub fn splice_boolean(s: &[u8], start: usize, end: usize, new: &[u8], v: &mut [u
 pub fn read_table(s: &[u8]) -> Opened {
     raw_call!(grundavok_read_table, [s], (), [], [])
 }
+
+pub fn replay(s: &[u8], log: &[u8], v: &mut [i64], p: &mut [u8], out: &mut [u8]) -> usize {
+    let a = raw_call!(grundavok_delta_replay, [s, log], (), [], [v, p, out]);
+    assert_eq!(a.number, 0);
+    a.written
+}

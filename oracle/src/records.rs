@@ -8,6 +8,7 @@ mod edited;
 mod edits;
 mod forms;
 mod kinds;
+mod logs;
 mod numbers;
 mod optional;
 mod rle;
@@ -39,7 +40,7 @@ pub struct Family {
     write: fn(&mut String, &Options, &mut Random),
 }
 
-pub const FAMILIES: [Family; 20] = [
+pub const FAMILIES: [Family; 21] = [
     Family {
         name: "numbers-short",
         about: "the four readers on all inputs of 0 to 2 bytes",
@@ -129,6 +130,11 @@ pub const FAMILIES: [Family; 20] = [
         name: "salvage",
         about: "columns of the four kinds, sound and faulty ones, surveyed and salvaged",
         write: salvage::all,
+    },
+    Family {
+        name: "logs",
+        about: "logs of the pen replayed over delta columns, good and refused ones",
+        write: logs::all,
     },
     Family {
         name: "forms",

@@ -100,6 +100,16 @@ void salvaged_is(int line, const char *call, grundavok_salvaged r, uint8_t numbe
     told(line, call, r.kept == kept && r.written == written);
 }
 
+void entry_is(int line, const char *call, grundavok_entry r, uint8_t number, size_t place, uint8_t kind, uint32_t position, int64_t depth, size_t next) {
+    calls++;
+    told(line, call, r.number == number && r.place == place && r.kind == kind && r.position == position && r.depth == depth && r.next == next);
+}
+
+void replayed_is(int line, const char *call, grundavok_replayed r, uint8_t number, size_t place, uint64_t readings, size_t written) {
+    calls++;
+    told(line, call, r.number == number && r.place == place && r.readings == readings && r.written == written);
+}
+
 void form_is(int line, const char *call, grundavok_form r, uint8_t number, size_t place, uint8_t ours, size_t differs) {
     calls++;
     told(line, call, r.number == number && r.place == place && r.ours == ours && r.differs == differs);
@@ -157,6 +167,8 @@ _Static_assert(sizeof(grundavok_boolean_cursor) == 40 && offsetof(grundavok_bool
 _Static_assert(sizeof(grundavok_counted) == 24 && offsetof(grundavok_counted, count) == 16, "counted");
 _Static_assert(sizeof(grundavok_survey) == 24 && offsetof(grundavok_survey, readings) == 16, "survey");
 _Static_assert(sizeof(grundavok_salvaged) == 40 && offsetof(grundavok_salvaged, written) == 32, "salvaged");
+_Static_assert(sizeof(grundavok_entry) == 32 && offsetof(grundavok_entry, position) == 4 && offsetof(grundavok_entry, next) == 24, "entry");
+_Static_assert(sizeof(grundavok_replayed) == 32 && offsetof(grundavok_replayed, written) == 24, "replayed");
 _Static_assert(sizeof(grundavok_form) == 24 && offsetof(grundavok_form, differs) == 16, "form");
 _Static_assert(sizeof(grundavok_specification) == 24 && offsetof(grundavok_specification, spec) == 16, "specification");
 _Static_assert(sizeof(grundavok_table) == 1288 && offsetof(grundavok_table, rows) == 1280, "table");
@@ -173,6 +185,7 @@ int main(void) {
     pieces();
     texts();
     salvages();
+    logs();
     forms();
     reasons();
     tables();

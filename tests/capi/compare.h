@@ -28,6 +28,8 @@ void counted_is(int line, const char *call, grundavok_counted r, uint8_t number,
 void survey_is(int line, const char *call, grundavok_survey r, uint8_t fault, size_t place, uint64_t readings);
 void salvaged_is(int line, const char *call, grundavok_salvaged r, uint8_t number, size_t place, uint8_t fault, size_t fault_place, uint64_t kept,
                  size_t written);
+void entry_is(int line, const char *call, grundavok_entry r, uint8_t number, size_t place, uint8_t kind, uint32_t position, int64_t depth, size_t next);
+void replayed_is(int line, const char *call, grundavok_replayed r, uint8_t number, size_t place, uint64_t readings, size_t written);
 void form_is(int line, const char *call, grundavok_form r, uint8_t number, size_t place, uint8_t ours, size_t differs);
 void reason_is(int line, const char *call, grundavok_reason is, grundavok_reason wanted);
 void spec_is(int line, const char *call, grundavok_specification r, uint8_t number, size_t place, uint32_t spec);
@@ -54,6 +56,8 @@ void left_is(int line, const char *what, const void *is, const void *wanted, siz
 #define COUNTED(call, ...) counted_is(__LINE__, #call, call, __VA_ARGS__)
 #define SURVEY(call, ...) survey_is(__LINE__, #call, call, __VA_ARGS__)
 #define SALVAGED(call, ...) salvaged_is(__LINE__, #call, call, __VA_ARGS__)
+#define ENTRY(call, ...) entry_is(__LINE__, #call, call, __VA_ARGS__)
+#define REPLAYED(call, ...) replayed_is(__LINE__, #call, call, __VA_ARGS__)
 #define FORM(call, ...) form_is(__LINE__, #call, call, __VA_ARGS__)
 /* A reason by its fields; those that are not named are 0. */
 #define REASON(call, ...) reason_is(__LINE__, #call, call, (grundavok_reason){__VA_ARGS__})
@@ -80,6 +84,7 @@ void cursors(void);
 void pieces(void);
 void texts(void);
 void salvages(void);
+void logs(void);
 void forms(void);
 void reasons(void);
 void tables(void);

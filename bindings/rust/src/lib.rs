@@ -8,6 +8,8 @@
 //!
 //! A column that was cut is refused by the calls that read all of it; `salvage` of each kind keeps what stands before the fault ([`salvage`]).
 //!
+//! [`log`] replays the pen's log of a tracing session over a delta column.
+//!
 //! [`form`] says whether a column is what our writer gives for the list it reads as.
 //!
 //! [`reason`] says why a table or a column is refused: which row or which run, and the facts.
@@ -21,6 +23,7 @@ pub mod delta;
 pub mod form;
 pub mod leb128;
 mod lists;
+pub mod log;
 /// The boundary itself, for callers that lend buffers of their own.
 pub mod raw;
 pub mod raw_column;

@@ -34,6 +34,26 @@ pub struct Salvaged {
     pub written: usize,
 }
 
+/// An entry of the pen's log by its kind's number, and the position of the log behind it.
+#[repr(C)]
+pub struct Entry {
+    pub number: u8,
+    pub kind: u8,
+    pub position: u32,
+    pub place: usize,
+    pub depth: i64,
+    pub next: usize,
+}
+
+/// What a replay came to: how many readings the final list has, and how many bytes were written.
+#[repr(C)]
+pub struct Replayed {
+    pub number: u8,
+    pub place: usize,
+    pub readings: u64,
+    pub written: usize,
+}
+
 /// Whether a column is in our form, 1 or 0, and the place of the first byte that differs.
 #[repr(C)]
 pub struct Form {
@@ -362,6 +382,20 @@ extern "C" {
         out: *mut u8,
         out_len: usize,
     ) -> Salvaged;
+
+    pub fn grundavok_log_entry(log: *const u8, log_len: usize, at: usize) -> Entry;
+    pub fn grundavok_delta_replay(
+        column: *const u8,
+        column_len: usize,
+        log: *const u8,
+        log_len: usize,
+        values: *mut i64,
+        values_len: usize,
+        present: *mut u8,
+        present_len: usize,
+        out: *mut u8,
+        out_len: usize,
+    ) -> Replayed;
 
     pub fn grundavok_column_form(typ: u8, s: *const u8, s_len: usize) -> Form;
 

@@ -13,6 +13,7 @@ mod calls {
     use grundavok::column_specification::{ColumnSpec, ColumnType};
     use grundavok::corrections::{self, Layer};
     use grundavok::form::{self, Form};
+    use grundavok::log::{self, Entry, Replayed};
     use grundavok::raw_column::{Frame, Row};
     use grundavok::reason::{self, About, Facts, Reason};
     use grundavok::salvage::{Salvaged, Survey};
@@ -270,6 +271,22 @@ mod calls {
             (rle::survey(&[0x02, 0x05, 0x7f, 0x07]), rle::survey(&[0x02, 0x05])),
             (survey(3, None), survey(2, None))
         );
+    }
+
+    #[test]
+    fn logs() {
+        let eighty = [0x7f, 0xd0, 0x00, 0x02, 0x00];
+        let mut entries = vec![1, 0, 0, 0, 0, 79, 0, 0, 0, 0, 0, 0, 0, 3, 1, 0, 0, 0];
+        assert_eq!(log::entry(&entries, 0), Ok((Entry::Insert(0, 79), 13)));
+        assert_eq!(log::entry(&entries, 13), Ok((Entry::Remove(1), 18)));
+        assert_eq!(log::entry(&entries, 18), refused(23, 18));
+        let readings = vec![Some(79), Some(80), Some(80)];
+        let column = vec![0x7d, 0xcf, 0x00, 0x01, 0x00];
+        assert_eq!(log::replay(&eighty, &entries, MOST), Ok(Replayed { readings, column }));
+        assert_eq!(log::replay(&eighty, &entries, 3), refused(9, 0));
+        entries.extend([4, 3, 0, 0, 0, 1, 0, 0, 0, 0, 0, 0, 0]);
+        assert_eq!(log::replay(&eighty, &entries, MOST), refused(23, 18));
+        assert_eq!(log::replay(&[0x02], &entries, MOST), refused(21, 1));
     }
 
     #[test]

@@ -4,6 +4,7 @@ use Prim.Native.Nat.{ℕ}
 use mathlib.Core.Path.{_≡_, ap, _∙_}
 use mathlib.Core.Bool.{Bool}
 use mathlib.Core.List.{List, map}
+use lib.IntN.{ℤ}
 use lib.ListN.{length}
 use Rattle.leb128.specs.Answer.{Answer, within, left}
 use Rattle.encoding.specs.Column.{Reading}
@@ -15,9 +16,12 @@ use Rattle.boolean_decoder.specs.Decoded.{Decoded as DecodedFlags}
 use Rattle.text.specs.Name.{startOf, lengthOf}
 use Rattle.text_decoder.specs.Slots.{decodingNames, DecodedNames}
 use Rattle.salvage.specs.Salvage.{Outcome, judged, reported, leftBy, SavedOptional, SavedTurns, SavedNames}
+use Rattle.pen_log.specs.Replay.{replayed, told, Replays}
 use Rattle.capi.specs.Cases.{counted, salvagedAs}
+use Rattle.capi.specs.Logs.{replayedAs, ToldReplay}
 use Rattle.capi.specs.Told.{Told, ToldSalvage}
 use Rattle.capi.specs.declared.Counted.{Counted}
+use Rattle.capi.specs.declared.Replayed.{Replayed}
 use Rattle.capi.specs.declared.Salvaged.{Salvaged}
 
 -- a promise that holds of one answer alone
@@ -131,3 +135,8 @@ module _ {served : Bool} {t : Trace (Reading (List ℕ))} {bytes a a′ l l′ p
   pub saved-names-output : ToldSalvage (SavedNames served t bytes a a′ l l′ p p′ out out′) r
       → out′ ≡ leftBy (namesOutcome served t bytes a l p out) bytes out
   saved-names-output d = d .holds .output ∙ ap (λ (o : Outcome). leftBy o bytes out) (d .holds .answer)
+
+-- a replay: the answer; what it leaves behind is fixed by the promise itself
+pub replayed-answer : {column log : List ℕ} {v v′ : List ℤ} {p p′ out out′ : List ℕ} {r : Replayed} → ToldReplay (Replays column log v v′ p p′ out out′) r
+    → r ≡ replayedAs (told (replayed column log (length v) (length p) (length out)))
+replayed-answer t = t .form ∙ ap replayedAs (t .holds .answer)

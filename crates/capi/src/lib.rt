@@ -7,6 +7,7 @@ mod cursors;
 mod edits;
 mod edits_to_end;
 mod forms;
+mod logs;
 mod numbers;
 mod reasons;
 mod salvages;
@@ -64,6 +65,26 @@ pub struct Salvaged {
     pub place: usize,
     pub fault_place: usize,
     pub kept: u64,
+    pub written: usize,
+}
+
+// An entry of the pen's log: its kind, 1 to 4, its position in the list, the depth where it has one, and the position of the log behind it.
+#[repr(C)]
+pub struct Entry {
+    pub number: u8,
+    pub kind: u8,
+    pub position: u32,
+    pub place: usize,
+    pub depth: i64,
+    pub next: usize,
+}
+
+// What a replay came to: how many readings the final list has, and how many bytes were written.
+#[repr(C)]
+pub struct Replayed {
+    pub number: u8,
+    pub place: usize,
+    pub readings: u64,
     pub written: usize,
 }
 

@@ -16,6 +16,7 @@ mod integer_edits;
 mod integer_salvages;
 mod integers;
 mod lists;
+mod logs;
 mod name_edits;
 mod name_salvages;
 mod names;
@@ -77,6 +78,10 @@ fn run(name: &[u8], line: &[u8], c: Cursor) -> Verdict {
         return v;
     }
     let v = salvages::run(name, line, c);
+    if is_known(v) {
+        return v;
+    }
+    let v = logs::run(name, line, c);
     if is_known(v) {
         return v;
     }

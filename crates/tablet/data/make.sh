@@ -11,6 +11,8 @@
 # ours), a name twice; absent readings alone, absent runs in a row; then one in our form, one that is as long as ours, one of 40,001 readings, and one of type 6.
 # torn-wasteful.block has one that is not in our form and one that does not read.
 # long.block has columns of many readings in few bytes: 72,500 depths and as many booleans, and 4,294,967,295 times the number 5.
+# pen.log is a log of the pen over a delta column of four readings: a change, an insert at the end, an absent reading inserted, a removal. cut.log ends inside
+# its second entry, and past.log names a reading that is not there.
 # refusals/NN.block is a small block for refusal NN of documents 01 and 02; 01-name.block ends inside a name.
 set -eu
 cd "$(dirname "$0")"
@@ -27,6 +29,9 @@ head -c 53 wedge.block >cut-behind.block
     printf '\214\140\260\352\001\240\234\001\330\117'
     printf '\377\377\377\377\017\005'
 } >long.block
+printf '\004\001\000\000\000\125\000\000\000\000\000\000\000\001\004\000\000\000\246\377\377\377\377\377\377\377\002\000\000\000\000\003\002\000\000\000' >pen.log
+printf '\004\001\000\000\000\125\000\000\000\000\000\000\000\001\004\000\000\000\246\377\377\377' >cut.log
+printf '\003\000\000\000\000\004\003\000\000\000\007\000\000\000\000\000\000\000' >past.log
 head -c 120 wedge.block >cut-integer.block
 head -c 48 long.block >cut-boolean.block
 head -c 60 signs.block >cut-text.block

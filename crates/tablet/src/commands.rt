@@ -6,6 +6,7 @@ use crate::layer;
 use crate::make;
 use crate::pen::Desk;
 use crate::read;
+use crate::replaying;
 use crate::rewrite;
 use crate::salvaging;
 use crate::show;
@@ -17,7 +18,7 @@ use crate::words;
 pub fn run(line: &[u8], desk: Desk) -> bool {
     let name = words::word(line, 0);
     match words::index(
-        b"show\0read\0draw\0check\0edit\0make\0salvage\0rewrite\0why\0layer\0help\0--help\0-h\0",
+        b"show\0read\0draw\0check\0edit\0make\0salvage\0rewrite\0why\0layer\0replay\0help\0--help\0-h\0",
         name,
     ) {
         0 => show::run(line, desk),
@@ -30,7 +31,8 @@ pub fn run(line: &[u8], desk: Desk) -> bool {
         7 => rewrite::run(line, desk),
         8 => why::run(line, desk),
         9 => layer::run(line, desk),
-        10 | 11 | 12 => help::run(desk),
+        10 => replaying::run(line, desk),
+        11 | 12 | 13 => help::run(desk),
         _ => help::unknown(name, desk),
     }
 }

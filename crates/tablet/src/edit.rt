@@ -81,7 +81,7 @@ pub fn say_lost(p: Pen, meant: usize) -> Pen {
     )
 }
 
-fn say_written(to: &[u8], block: &[u8], position: usize, meant: usize, desk: Desk) -> bool {
+pub fn say_written(to: &[u8], block: &[u8], position: usize, meant: usize, desk: Desk) -> bool {
     let p = pen::form(
         pen::text(pen::on(desk.out), to),
         b": % bytes, column %",

@@ -42,6 +42,9 @@ fn say_writing(p: Pen) -> Pen {
   tablet layer CORRECTIONS FIRST --to OUT [--over]
                                one block of two: each column of CORRECTIONS, and those of FIRST that CORRECTIONS has no row for;
                                a row without bytes in CORRECTIONS hides the older column
+  tablet replay FILE COLUMN LOG --to OUT [--at ENTRIES] [--over]
+                               the pen's log over a delta column: says what each entry does, and writes the block with the
+                               column as it is at the end, or behind so many entries
   tablet script FILE           runs each line of FILE as a command (without the word tablet; # begins a remark)
 ",
     )

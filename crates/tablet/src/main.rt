@@ -30,6 +30,7 @@ mod range;
 mod read;
 mod refusals;
 mod renewed;
+mod replaying;
 mod rewrite;
 mod rooms;
 mod rows;

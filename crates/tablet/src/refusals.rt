@@ -12,6 +12,12 @@ fn say_words(p: Pen, number: u8) -> Pen {
     if number == CUT_NAME {
         return pen::text(p, b"the bytes end inside the name whose length stands");
     }
+    if number == 23 {
+        return pen::text(
+            p,
+            b"an entry is cut, of no kind, or at no place of the list,",
+        );
+    }
     let all = b"refused\0\
 the bytes end inside the number\0\
 a number is too large for its type\0\
@@ -39,7 +45,7 @@ the bytes end between numbers, with the next due\0";
 
 // Is it a refusal of what stands in some bytes?
 fn is_of_bytes(number: u8) -> bool {
-    number < 7 || number == 20 || number == 21 || number == CUT_NAME
+    number < 7 || number == 20 || number == 21 || number == 23 || number == CUT_NAME
 }
 
 // Places inside bytes are bytes, and those inside a list are indices; the other refusals have none.

@@ -1,11 +1,10 @@
 -- `slots_i64::move_down_i64` meets its contract: elements are stored in order, each read before it is overwritten. Assumes nothing.
-use borrow.Author.Needs.{needs, sfits-of}
+use borrow.Author.Needs.{needs}
 use Prim.Native.Nat.{_-_, _≤_, zero-le}
 use native.Mathlib.Omega.{arith}
-use lib.IntN.{pos}
 use lib.ListN.{drop}
-use Rattle.leb128.proofs.Twos.{same}
-use Rattle.slots.proofs.Moves.{Stored, stored-none, stored-all, down-turn}
+use Rattle.slots.proofs.Moves.{Stored, stored-none, stored-all}
+use Rattle.slots.proofs.Blocks.{down-block}
 use Rattle.slots_i64.proofs.move_down_i64.Statement.{statement}
 use Rattle.slots_i64.proofs.move_down_i64.Tie as tie
 
@@ -18,33 +17,32 @@ abbrev μ-loop : tie.MeasureT-loop
 loop-holds : tie.Need-loop-holds Inv-loop μ-loop
 loop-holds c = (zero-le, stored-none _ _ _)
 
-add-v : tie.Need-add-v Inv-loop μ-loop
-add-v c = search needs
+add-move-first-i64 : tie.Need-add-move-first-i64 Inv-loop μ-loop
+add-move-first-i64 c = search needs
 
-mul-v : tie.Need-mul-v Inv-loop μ-loop
-mul-v c = search needs
+add-move-first-i64-2 : tie.Need-add-move-first-i64-2 Inv-loop μ-loop
+add-move-first-i64-2 c = search needs
 
-slice-copy-out-v : tie.Need-slice-copy-out-v Inv-loop μ-loop
-slice-copy-out-v c = search needs
+sub-move-first-i64 : tie.Need-sub-move-first-i64 Inv-loop μ-loop
+sub-move-first-i64 c = search needs
 
-add-v-2 : tie.Need-add-v-2 Inv-loop μ-loop
-add-v-2 c = search needs
-
-mul-v-2 : tie.Need-mul-v-2 Inv-loop μ-loop
-mul-v-2 c = search needs
-
-slice-set-from-v : tie.Need-slice-set-from-v Inv-loop μ-loop
-slice-set-from-v c = search needs
+move-first-i64-requires : tie.Need-move-first-i64-requires Inv-loop μ-loop
+move-first-i64-requires c κs =
+    let p = c .before .before .before .pre in
+    let k = c .before .before .loop .inv .1 .long in
+    (omega arith, omega (arith, p, k), omega (arith, p, k))
 
 add-i : tie.Need-add-i Inv-loop μ-loop
-add-i c = search needs
+add-i c = omega (arith, c .before .move-first-i64 .ensures, c .before .before .before .before .before .pre)
 
 loop-less : tie.Need-loop-less Inv-loop μ-loop
-loop-less c = search needs
+loop-less c = omega (arith, c .before .move-first-i64 .ensures)
 
 loop-again : tie.Need-loop-again Inv-loop μ-loop
 loop-again c =
-    (search needs, down-turn (pos 0) _ (c .before .before .loop .inv .1) (omega arith) (omega arith) (same _ (sfits-of (c .v .given))))
+    let p = c .before .before .before .before .before .pre in
+    let f = c .before .move-first-i64 .ensures in
+    (omega (arith, f .1), down-block _ _ (c .before .before .before .before .loop .inv .1) (p .0) (omega (arith, p .1, f .1)) (f .2))
 
 same-length : tie.Need-same-length Inv-loop μ-loop
 same-length c = search needs
@@ -59,12 +57,10 @@ move-down-i64-spec =
     Inv-loop
     μ-loop
     loop-holds
-    add-v
-    mul-v
-    slice-copy-out-v
-    add-v-2
-    mul-v-2
-    slice-set-from-v
+    add-move-first-i64
+    add-move-first-i64-2
+    sub-move-first-i64
+    move-first-i64-requires
     add-i
     loop-less
     loop-again

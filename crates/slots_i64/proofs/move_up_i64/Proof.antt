@@ -1,11 +1,10 @@
 -- `slots_i64::move_up_i64` meets its contract: elements are stored from the last down, each read before it is overwritten. Assumes nothing.
-use borrow.Author.Needs.{needs, sfits-of}
+use borrow.Author.Needs.{needs}
 use Prim.Native.Nat.{_+_, _-_, _≤_}
 use native.Mathlib.Omega.{arith}
-use lib.IntN.{pos}
 use lib.ListN.{drop}
-use Rattle.leb128.proofs.Twos.{same}
-use Rattle.slots.proofs.Moves.{Stored, up-start, up-turn, up-end}
+use Rattle.slots.proofs.Moves.{Stored, up-start, up-end}
+use Rattle.slots.proofs.Blocks.{up-block}
 use Rattle.slots_i64.proofs.move_up_i64.Statement.{statement}
 use Rattle.slots_i64.proofs.move_up_i64.Tie as tie
 
@@ -18,36 +17,20 @@ abbrev μ-loop : tie.MeasureT-loop
 loop-holds : tie.Need-loop-holds Inv-loop μ-loop
 loop-holds c = (search needs, up-start _ _ _ _)
 
-sub-i : tie.Need-sub-i Inv-loop μ-loop
-sub-i c = search needs
-
-add-v : tie.Need-add-v Inv-loop μ-loop
-add-v c = search needs
-
-mul-v : tie.Need-mul-v Inv-loop μ-loop
-mul-v c = search needs
-
-slice-copy-out-v : tie.Need-slice-copy-out-v Inv-loop μ-loop
-slice-copy-out-v c = search needs
-
-add-v-2 : tie.Need-add-v-2 Inv-loop μ-loop
-add-v-2 c = search needs
-
-mul-v-2 : tie.Need-mul-v-2 Inv-loop μ-loop
-mul-v-2 c = search needs
-
-slice-set-from-v : tie.Need-slice-set-from-v Inv-loop μ-loop
-slice-set-from-v c = search needs
+move-last-i64-requires : tie.Need-move-last-i64-requires Inv-loop μ-loop
+move-last-i64-requires c κs =
+    let p = c .before .before .before .pre in
+    let k = c .before .before .loop .inv .1 .long in
+    (omega arith, omega (arith, p, k), omega (arith, p, k))
 
 loop-less : tie.Need-loop-less Inv-loop μ-loop
-loop-less c = search needs
+loop-less c = omega (arith, c .before .move-last-i64 .ensures)
 
 loop-again : tie.Need-loop-again Inv-loop μ-loop
-loop-again c = (
-  search needs,
-  up-turn (pos 0) _ _ _ _ (c .before .before .loop .inv .1) (omega arith) (omega arith) (omega arith) (omega arith)
-      (same _ (sfits-of (c .v .given))),
-)
+loop-again c =
+    let p = c .before .before .before .before .before .pre in
+    let f = c .before .move-last-i64 .ensures in
+    (omega (arith, f .0), up-block _ _ _ _ _ (c .before .before .before .before .loop .inv .1) (p .0) (p .1) (c .before .before .before .before .loop .inv .0) (omega (arith, f .0)) (f .1))
 
 same-length : tie.Need-same-length Inv-loop μ-loop
 same-length c = search needs
@@ -62,13 +45,7 @@ move-up-i64-spec =
     Inv-loop
     μ-loop
     loop-holds
-    sub-i
-    add-v
-    mul-v
-    slice-copy-out-v
-    add-v-2
-    mul-v-2
-    slice-set-from-v
+    move-last-i64-requires
     loop-less
     loop-again
     same-length

@@ -1,10 +1,10 @@
 -- `slots_u8::move_down_u8` meets its contract: elements are stored in order, each read before it is overwritten. Assumes nothing.
 use borrow.Author.Needs.{needs}
 use Prim.Native.Nat.{_-_, _≤_, zero-le}
-use mathlib.Core.Path.{refl}
 use native.Mathlib.Omega.{arith}
 use lib.ListN.{drop}
-use Rattle.slots.proofs.Moves.{Stored, stored-none, stored-all, down-turn}
+use Rattle.slots.proofs.Moves.{Stored, stored-none, stored-all}
+use Rattle.slots.proofs.Blocks.{down-block}
 use Rattle.slots_u8.proofs.move_down_u8.Statement.{statement}
 use Rattle.slots_u8.proofs.move_down_u8.Tie as tie
 
@@ -17,32 +17,38 @@ abbrev μ-loop : tie.MeasureT-loop
 loop-holds : tie.Need-loop-holds Inv-loop μ-loop
 loop-holds c = (zero-le, stored-none _ _ _)
 
-add-v : tie.Need-add-v Inv-loop μ-loop
-add-v c = search needs
+add-move-first-u8 : tie.Need-add-move-first-u8 Inv-loop μ-loop
+add-move-first-u8 c = search needs
 
-slice-read-v : tie.Need-slice-read-v Inv-loop μ-loop
-slice-read-v c = search needs
+add-move-first-u8-2 : tie.Need-add-move-first-u8-2 Inv-loop μ-loop
+add-move-first-u8-2 c = search needs
 
-add-s : tie.Need-add-s Inv-loop μ-loop
-add-s c = search needs
+sub-move-first-u8 : tie.Need-sub-move-first-u8 Inv-loop μ-loop
+sub-move-first-u8 c = search needs
 
-slice-write-s : tie.Need-slice-write-s Inv-loop μ-loop
-slice-write-s c = search needs
+move-first-u8-requires : tie.Need-move-first-u8-requires Inv-loop μ-loop
+move-first-u8-requires c κs =
+    let p = c .before .before .before .before .pre in
+    let k = c .before .before .loop .inv .1 .long in
+    (omega arith, omega (arith, p, k), omega (arith, p, k))
 
 add-i : tie.Need-add-i Inv-loop μ-loop
-add-i c = search needs
+add-i c = omega (arith, c .before .before .move-first-u8 .ensures, c .before .before .before .before .before .before .before .pre)
 
 loop-less : tie.Need-loop-less Inv-loop μ-loop
-loop-less c = search needs
+loop-less c = omega (arith, c .before .before .move-first-u8 .ensures)
 
 loop-again : tie.Need-loop-again Inv-loop μ-loop
-loop-again c = (search needs, down-turn 0 _ (c .before .before .loop .inv .1) (omega arith) (omega arith) refl)
+loop-again c =
+    let p = c .before .before .before .before .before .before .before .pre in
+    let f = c .before .before .move-first-u8 .ensures in
+    (omega (arith, f .1), down-block _ _ (c .before .before .before .before .before .loop .inv .1) (p .0) (omega (arith, p .1, f .1)) (f .2))
 
 same-length : tie.Need-same-length Inv-loop μ-loop
 same-length c = search needs
 
 returns : tie.Need-returns Inv-loop μ-loop
-returns c = stored-all (c .before .before .args .n) (c .before .loop .inv .1) (omega arith)
+returns c = stored-all (c .before .before .before .args .n) (c .before .loop .inv .1) (omega arith)
 
 pub move-down-u8-spec : {M : Type 1} → statement M
 move-down-u8-spec =
@@ -51,10 +57,10 @@ move-down-u8-spec =
     Inv-loop
     μ-loop
     loop-holds
-    add-v
-    slice-read-v
-    add-s
-    slice-write-s
+    add-move-first-u8
+    add-move-first-u8-2
+    sub-move-first-u8
+    move-first-u8-requires
     add-i
     loop-less
     loop-again
