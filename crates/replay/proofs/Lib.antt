@@ -1,3 +1,0 @@
--- Laws that several functions' proofs cite.
-pub mod Bits
-pub mod Digits
