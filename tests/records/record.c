@@ -173,7 +173,7 @@ static void hold_row(bool pairs, const void *from, size_t size, size_t len) {
     }
     field = next_field();
     if (is_text(field, "*")) return;
-    if (!row_of(field, pairs, pairs ? call->bytes : call->numbers, &row)) broken = true;
+    if (!row_of(field, pairs, pairs ? call->bytes : MOST, &row)) broken = true;
     else if (!is_recorded(from, size, len)) differs = true;
 }
 

@@ -25,7 +25,7 @@ bool row_of(struct text t, bool pairs, size_t most, struct row *row);
 bool is_text(struct text t, const char *word);
 struct text until(struct text t, size_t from, char end);
 
-/* A call: its name, how many bytes a field of it has at most and how many numbers a list, its inputs, a letter each, and how it is made. The
+/* A call: its name, how many bytes a field of it has at most and how many numbers a given list, its inputs, a letter each, and how it is made. The
  * letters, of which the large ones are lent: the call may change them, and what they then hold is the record's last answers, in this order.
  *   n  a number                   s S  bytes
  *   w  one of 32 bits             u U  a list of u64, or of i64 by their bits
