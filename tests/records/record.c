@@ -24,7 +24,8 @@ static size_t at; /* where the next field begins, one past the line's end where 
 static bool broken, differs, shown;
 static const char *remark; /* what no answer shows, the first of it */
 static const struct call *call;
-static struct input inputs[12];
+static struct input inputs[16];
+static const size_t most_inputs = sizeof inputs / sizeof inputs[0];
 static struct row row; /* what a field stands for */
 
 uint64_t number_at(size_t i) {
@@ -109,6 +110,10 @@ static void take_row(struct input *in) {
 
 static void take_inputs(void) {
     for (size_t i = 0; call->inputs[i] != 0; i++) {
+        if (i == most_inputs) {
+            broken = true; /* a row of calls.def with too many */
+            return;
+        }
         inputs[i].kind = call->inputs[i];
         inputs[i].field = next_field();
         if (is_row(inputs[i].kind)) take_row(&inputs[i]);
