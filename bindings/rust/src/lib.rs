@@ -8,6 +8,8 @@
 //!
 //! A column that was cut is refused by the calls that read all of it; `salvage` of each kind keeps what stands before the fault ([`salvage`]).
 //!
+//! [`corrections`] finds a column in two blocks, later corrections over a first scan.
+//!
 //! [`log`] replays the pen's log of a tracing session over a delta column.
 //!
 //! [`form`] says whether a column is what our writer gives for the list it reads as.
