@@ -17,10 +17,10 @@ use Rattle.encoding.proofs.Fronts.{NoAbsent, absent-cut, repeats-cut, joined, s
 use Rattle.encoding.proofs.Looking.{off-none, off-some, closed-none, closed-twice, open-lone, repeats-end, literal-end, apart-more}
 use Rattle.encoding.proofs.Times.{same-more, same-counts, piece-less, piece-first}
 use Rattle.rle_form.specs.Ahead.{Other, SameFrom, Alone, AloneIf, Lone, LoneFrom, Found}
-use Rattle.rle_form.specs.Pieces.{heldIn, restOf, listOf, Going}
-use Rattle.rle_form.specs.declared.walk.Held.the-variants as held
-use Rattle.rle_form.specs.declared.walk.Piece.{Piece}
-use Rattle.rle_form.proofs.Held.{held-none, held-some}
+use Rattle.runs.specs.Pieces.{heldIn, restOf, listOf, Going}
+use Rattle.runs.specs.declared.walk.Held.the-variants as held
+use Rattle.runs.specs.declared.walk.Piece.{Piece}
+use Rattle.runs.proofs.Held.{held-none, held-some}
 
 module _ {A : Type 0} (E : Element A) (L : ElementLaws E) where
   -- ---- two readings that are alike

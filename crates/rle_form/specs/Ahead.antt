@@ -11,8 +11,8 @@ use Rattle.encoding.specs.Longest.{readingsIn}
 use Rattle.encoding.specs.Stretches.{Stretch, stretches}
 use Rattle.encoding.specs.declared.StretchEnd.{StretchEnd}
 use Rattle.encoding.specs.declared.StretchEnd.the-variants as stretch
-use Rattle.rle_form.specs.Pieces.{heldIn, restOf, listOf}
-use Rattle.rle_form.specs.declared.walk.Piece.{Piece}
+use Rattle.runs.specs.Pieces.{heldIn, restOf, listOf}
+use Rattle.runs.specs.declared.walk.Piece.{Piece}
 
 -- the first reading of a list, if it has one, is not like x
 abbrev pub Other : {A : Type 0} → Element A → Option A → List (Option A) → Type 0

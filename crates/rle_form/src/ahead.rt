@@ -7,22 +7,13 @@ ghost use Rattle.text.specs.Text.{bytesAt, sameBytes};
 ghost use Rattle.runs.specs.Values.{elementOf};
 ghost use Rattle.encoding.specs.Ahead.{alike};
 ghost use Rattle.rle_form.specs.Ahead.{SameFrom, AloneIf, LoneFrom, Found};
-ghost use Rattle.rle_form.specs.Pieces.{heldIn, Within, listOf, Going, AbsentIf};
-use crate::walk::Held;
-use crate::walk::Piece;
-use crate::walk::advanced;
+ghost use Rattle.runs.specs.Pieces.{heldIn, Within, listOf, Going};
 use encoding::StretchEnd;
 use runs::Values;
-
-// Is a reading absent?
-pub(crate) fn is_absent(held: Held) -> bool
-    ensures { λ r. ⌜ AbsentIf held r ⌝ }
-{
-    match held {
-        Held::Absent => true,
-        Held::Value(_, _) => false,
-    }
-}
+use runs::walk::Held;
+use runs::walk::Piece;
+use runs::walk::advanced;
+use runs::walk::is_absent;
 
 // Are the bytes from a up to b those from c up to d?
 fn same_parts(s: &[u8], a: usize, b: usize, c: usize, d: usize) -> bool

@@ -7,8 +7,8 @@ use Rattle.encoding.specs.Column.{trace}
 use Rattle.encoding.specs.Writer.{anyPresent}
 use Rattle.runs.specs.Values.{elementOf}
 use Rattle.runs.proofs.Ends.{elementLaws}
-use Rattle.rle_form.specs.Pieces.{listOf, Going}
-use Rattle.rle_form.proofs.Held.{absent-true, absent-false}
+use Rattle.runs.specs.Pieces.{listOf, Going}
+use Rattle.runs.proofs.Held.{absent-true, absent-false}
 use Rattle.rle_form.proofs.Looked.{passed-less}
 use Rattle.rle_form.proofs.Turning.{any-held, any-passed, any-ended}
 use Rattle.rle_form.proofs.any_value.Statement.{statement}

@@ -1,7 +1,7 @@
 -- `rle_form::ahead::is_alone` meets its contract: a value that stands there once is compared with the one behind it. Assumes nothing.
 use borrow.Author.Needs.{needs}
 use Rattle.runs.proofs.Ends.{elementLaws}
-use Rattle.rle_form.proofs.Held.{absent-true, absent-false}
+use Rattle.runs.proofs.Held.{absent-true, absent-false}
 use Rattle.rle_form.proofs.Looked.{alone-times, alone-absent, alone-last, alone-next}
 use Rattle.rle_form.proofs.ahead.is_alone.Statement.{statement}
 use Rattle.rle_form.proofs.ahead.is_alone.Tie as tie

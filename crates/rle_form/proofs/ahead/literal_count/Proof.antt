@@ -4,7 +4,7 @@ use lib.ListN.{length}
 use borrow.Author.Needs.{needs}
 use Rattle.runs.specs.Values.{elementOf}
 use Rattle.runs.proofs.Ends.{elementLaws}
-use Rattle.rle_form.specs.Pieces.{listOf}
+use Rattle.runs.specs.Pieces.{listOf}
 use Rattle.rle_form.proofs.Looked.{LoneAt, lone-begin, lone-room, lone-turn, alone-there, passed-less, lone-stop}
 use Rattle.rle_form.proofs.ahead.literal_count.Statement.{statement}
 use Rattle.rle_form.proofs.ahead.literal_count.Tie as tie

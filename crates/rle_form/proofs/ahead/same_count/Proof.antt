@@ -6,7 +6,7 @@ use lib.ListN.{length}
 use borrow.Author.Tests.{not-true, not-false}
 use Rattle.runs.specs.Values.{elementOf}
 use Rattle.runs.proofs.Ends.{elementLaws}
-use Rattle.rle_form.specs.Pieces.{heldIn, listOf}
+use Rattle.runs.specs.Pieces.{heldIn, listOf}
 use Rattle.rle_form.proofs.Looked.{SameTo, same-start, same-turn, same-room, same-other, same-over, passed-less}
 use Rattle.rle_form.proofs.ahead.same_count.Statement.{statement}
 use Rattle.rle_form.proofs.ahead.same_count.Tie as tie

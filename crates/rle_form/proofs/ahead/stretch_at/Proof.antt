@@ -2,7 +2,7 @@
 use native.Mathlib.Omega.{arith}
 use borrow.Author.Needs.{needs}
 use Rattle.runs.proofs.Ends.{elementLaws}
-use Rattle.rle_form.proofs.Held.{absent-true, absent-false}
+use Rattle.runs.proofs.Held.{absent-true, absent-false}
 use Rattle.rle_form.proofs.Looked.{stretch-absent, stretch-repeat, stretch-literal}
 use Rattle.rle_form.proofs.ahead.stretch_at.Statement.{statement}
 use Rattle.rle_form.proofs.ahead.stretch_at.Tie as tie
