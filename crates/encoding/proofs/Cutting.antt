@@ -8,7 +8,7 @@ use mathlib.Core.Bool.{Bool, true, false}
 use native.Mathlib.Omega.{arith}
 use lib.ListN.{length, take, drop, replicate, length-append, length-map}
 use lib.Seq.{take-at, drop-at}
-use Rattle.encoding.specs.Stretches.{Stretch, stretches}
+use Rattle.encoding.specs.Stretches.{stretches}
 use Rattle.encoding.specs.Ahead.{alike, joinAll, Off, Closed, Apart}
 use Rattle.encoding.specs.Element.{Element}
 use Rattle.encoding.specs.declared.StretchEnd.the-variants as stretch
@@ -165,7 +165,8 @@ module _ {A : Type 0} (E : Element A) (L : ElementLaws E) where
         begins-with zero l e = absurd (omega arith)
         begins-with (suc n) l e = e ∙ ap (λ (l : List (Option A)). some a ∷ l) (sym (ap (drop 1) e))
 
-    pub cut-literal : (a : A) (k : ℕ) (zs : List (Option A)) → SameRun E (some a) xs c ys → c < 2 → LoneRun E ys k zs → CutOf (E .same) xs (stretch.Literal k) zs
+    pub cut-literal : (a : A) (k : ℕ) (zs : List (Option A)) → SameRun E (some a) xs c ys → c < 2 → LoneRun E ys k zs
+        → CutOf (E .same) xs (stretch.Literal k) zs
     cut-literal a k zs u l r =
         let one : c ≡ 1 = omega (arith, u .later) in
         let e : xs ≡ some a ∷ ys = u .split ∙ ap (λ (n : ℕ). replicate n (some a) ++ ys) one in

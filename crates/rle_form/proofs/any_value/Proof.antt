@@ -45,7 +45,8 @@ loop-less : tie.Need-loop-less Inv-loop μ-loop
 loop-less c =
     let a = c .before .before .before .before .before .before .before .before .args in
     let k = c .advanced .ensures in
-    passed-less _ (elementLaws (a .values)) (a .s .now) _ _ (c .before .before .before .before .before .loop .inv .0) (k .0) (c .before .before .before .if1 .taken) (k .1)
+    passed-less _ (elementLaws (a .values)) (a .s .now) (c .before .before .before .before .before .loop .p) (c .advanced .result)
+    (c .before .before .before .if1 .taken) (k .1)
 
 loop-again : tie.Need-loop-again Inv-loop μ-loop
 loop-again c =
