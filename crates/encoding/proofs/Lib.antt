@@ -1,9 +1,12 @@
+pub mod Answered
 pub mod Back
 pub mod Columns
 pub mod Cut
+pub mod Cutting
 pub mod Elements
 pub mod Faults
 pub mod Filling
+pub mod Fits
 pub mod Fronts
 pub mod Heads
 pub mod Limits
@@ -22,3 +25,4 @@ pub mod Times
 pub mod Via
 pub mod Walking
 pub mod Within
+pub mod Written

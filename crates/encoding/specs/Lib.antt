@@ -1,6 +1,7 @@
 pub mod Ahead
 pub mod Cases
 pub mod Column
+pub mod Cuts
 pub mod Element
 pub mod Flags
 pub mod Given

@@ -29,3 +29,9 @@ pub enum StretchEnd {
     Repeat(usize),
     Literal(usize),
 }
+
+// So many bytes; or more than a u64 counts.
+pub enum Size {
+    Is(u64),
+    Beyond,
+}

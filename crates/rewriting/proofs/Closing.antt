@@ -22,8 +22,8 @@ use Rattle.encoding.specs.Cases.{answerOf}
 use Rattle.encoding.specs.Flags.{minus}
 use Rattle.rewriting.specs.Cutter.{spending, literalHead, absentRun, Shut, shut, isSome, singleOf, severalOf, closing, closedOf, longer, turned, fedOf, finishedOf}
 use Rattle.rewriting.specs.Values.{plainE, heldIn, isValue, Within, cutOf}
-use Rattle.rewriting.specs.declared.cutter.Held.{Held}
-use Rattle.rewriting.specs.declared.cutter.Held.the-variants as held
+use Rattle.runs.specs.declared.walk.Held.{Held}
+use Rattle.runs.specs.declared.walk.Held.the-variants as held
 use Rattle.rewriting.specs.declared.cutter.Cutter.{Cutter}
 use Rattle.rewriting.proofs.Comparing.{within-value}
 

@@ -7,8 +7,8 @@ use lib.ListN.{length}
 use Rattle.encoding.specs.Ahead.{alike}
 use Rattle.text.specs.Text.{bytesAt, sameBytes}
 use Rattle.rewriting.specs.Values.{plainE, heldIn, Within}
-use Rattle.rewriting.specs.declared.cutter.Held.{Held}
-use Rattle.rewriting.specs.declared.cutter.Held.the-variants as held
+use Rattle.runs.specs.declared.walk.Held.{Held}
+use Rattle.runs.specs.declared.walk.Held.the-variants as held
 
 -- ---- readings that are held
 

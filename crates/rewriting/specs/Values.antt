@@ -11,8 +11,8 @@ use Rattle.encoding.specs.Element.{Element}
 use Rattle.encoding.specs.Column.{Reading, absent, present, spot, repeated, literals, traceFrom}
 use Rattle.encoding.specs.Walk.{Trace, onward}
 use Rattle.text.specs.Text.{sameBytes}
-use Rattle.rewriting.specs.declared.cutter.Held.{Held}
-use Rattle.rewriting.specs.declared.cutter.Held.the-variants as held
+use Rattle.runs.specs.declared.walk.Held.{Held}
+use Rattle.runs.specs.declared.walk.Held.the-variants as held
 use Rattle.rewriting.specs.declared.cutter.Cutter.{Cutter}
 use Rattle.rewriting.specs.declared.cutter.Shut.{Shut}
 use Rattle.rewriting.specs.Cutter.{Cut}

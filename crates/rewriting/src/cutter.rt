@@ -10,12 +10,7 @@ ghost use Rattle.text.specs.Text.{bytesAt, sameBytes};
 ghost use Rattle.rewriting.specs.Cutter.{spending, literalHead, absentRun, singleOf, severalOf, closedOf, fedOf, finishedOf};
 ghost use Rattle.rewriting.specs.Values.{plainE, heldIn, isValue, Within, cutOf, shutOf};
 use encoding::Answer;
-
-// A reading: absent, or a value whose bytes stand in the column from one position up to another.
-pub(crate) enum Held {
-    Absent,
-    Value(usize, usize),
-}
+use runs::walk::Held;
 
 // What is known of the list so far: the bytes spent, or 10; whether a value came; how many values of a literal stretch are open, their bytes spent
 // but not their count; and the reading that is held, with how many times it came.

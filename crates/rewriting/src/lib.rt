@@ -16,7 +16,6 @@ pub mod cutter;
 pub mod turns;
 
 use crate::cutter::Cutter;
-use crate::cutter::Held;
 use crate::cutter::fed;
 use crate::cutter::finished;
 use encoding::Answer;
@@ -24,6 +23,7 @@ use encoding::Head;
 use runs::ValueEnd;
 use runs::Values;
 use runs::value_end;
+use runs::walk::Held;
 
 // Behind some readings of a column: the position of the next run, the column's length where none follows, and how many readings came before it.
 struct Fed {

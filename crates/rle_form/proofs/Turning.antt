@@ -36,13 +36,13 @@ use Rattle.own_form.specs.Heads.{headBytes}
 use Rattle.own_form.proofs.Deciding.{count-differs, count-agrees}
 use Rattle.own_form.proofs.Following.{Follows}
 use Rattle.rle_form.specs.Ahead.{sortOf, Found}
-use Rattle.rle_form.specs.Pieces.{heldIn, listFrom, restOf, listOf, Going}
+use Rattle.runs.specs.Pieces.{heldIn, listFrom, restOf, listOf, Going}
 use Rattle.rle_form.specs.Turns.{countIn, countBytes, Sound, stretchedFrom, Turned}
 use Rattle.rle_form.specs.declared.Turn.the-variants as turn
-use Rattle.rle_form.specs.declared.walk.Held.the-variants as held
-use Rattle.rle_form.specs.declared.walk.Piece.{Piece}
-use Rattle.rle_form.proofs.Held.{held-none, held-some}
-use Rattle.rle_form.proofs.Walked.{list-end}
+use Rattle.runs.specs.declared.walk.Held.the-variants as held
+use Rattle.runs.specs.declared.walk.Piece.{Piece}
+use Rattle.runs.proofs.Held.{held-none, held-some}
+use Rattle.runs.proofs.Walked.{list-end}
 
 -- ---- a stretch by its sort and count
 

@@ -16,7 +16,7 @@ use Rattle.encoding.specs.declared.StretchEnd.{StretchEnd}
 use Rattle.encoding.specs.declared.StretchEnd.the-variants as stretch
 use Rattle.encoding.specs.Flags.{minus}
 use Rattle.own_form.specs.Difference.{differAt}
-use Rattle.rle_form.specs.Pieces.{listFrom}
+use Rattle.runs.specs.Pieces.{listFrom}
 use Rattle.rle_form.specs.declared.Ended.{Ended}
 use Rattle.rle_form.specs.declared.Ended.the-variants as ended
 use Rattle.rle_form.specs.declared.Turn.{Turn}

@@ -1,27 +1,25 @@
 // The writer's next stretch of the list that is walked, found by looking ahead with copies of the walk.
 ghost use mathlib.Core.Path.{_≡_};
-ghost use Prim.Native.Nat.{_-_, _≤_, _<_};
+ghost use Prim.Native.Nat.{suc, _-_, _≤_, _<_};
 ghost use lib.ListN.{length};
 ghost use Rattle.encoding.specs.Limit.{limit};
 ghost use Rattle.text.specs.Text.{bytesAt, sameBytes};
 ghost use Rattle.runs.specs.Values.{elementOf};
 ghost use Rattle.encoding.specs.Ahead.{alike};
-ghost use Rattle.rle_form.specs.Ahead.{SameFrom, AloneIf, LoneFrom, Found};
-ghost use Rattle.rle_form.specs.Pieces.{heldIn, Within, listOf, Going, AbsentIf};
-use crate::walk::Held;
-use crate::walk::Piece;
-use crate::walk::advanced;
+ghost use Rattle.encoding.specs.Cuts.{SameRun, LoneRun};
+ghost use Rattle.rle_form.specs.Ahead.{Found};
+ghost use Rattle.runs.specs.Pieces.{heldIn, Within, listOf, Going};
 use encoding::StretchEnd;
 use runs::Values;
+use runs::walk::Held;
+use runs::walk::Piece;
+use runs::walk::advanced;
+use runs::walk::is_absent;
 
-// Is a reading absent?
-pub(crate) fn is_absent(held: Held) -> bool
-    ensures { λ r. ⌜ AbsentIf held r ⌝ }
-{
-    match held {
-        Held::Absent => true,
-        Held::Value(_, _) => false,
-    }
+// So many readings, and the piece behind them.
+struct Passed {
+    count: u64,
+    piece: Piece,
 }
 
 // Are the bytes from a up to b those from c up to d?
@@ -56,12 +54,12 @@ fn same_held(s: &[u8], values: Values, a: Held, b: Held) -> bool
     }
 }
 
-// How many readings from here on are like the one here.
-fn same_count(s: &[u8], values: Values, p: Piece) -> u64
-    requires { ⌜ Going (elementOf values .E) (now s) p ⌝ }
-    requires { ⌜ (0 < p .times) × (length (listOf (elementOf values .E) (now s) p) ≤ limit) ⌝ }
-    ensures { λ r. ⌜ SameFrom (elementOf values .E) (heldIn (elementOf values .E) (now (s .entry)) (p .held))
-        (listOf (elementOf values .E) (now (s .entry)) p) r ⌝ }
+// The readings from here on that are like the one here.
+fn same_run(s: &[u8], values: Values, p: Piece) -> Passed
+    requires { ⌜ Going (elementOf values .E) (now s) p × (0 < p .times) × (length (listOf (elementOf values .E) (now s) p) ≤ limit) ⌝ }
+    ensures { λ r. ⌜ Going (elementOf values .E) (now (s .entry)) (r .piece) ⌝ }
+    ensures { λ r. ⌜ SameRun (elementOf values .E) (heldIn (elementOf values .E) (now (s .entry)) (p .held))
+        (listOf (elementOf values .E) (now (s .entry)) p) (r .count) (listOf (elementOf values .E) (now (s .entry)) (r .piece)) ⌝ }
 {
     let held = p.held;
     let mut count = p.times;
@@ -69,62 +67,67 @@ fn same_count(s: &[u8], values: Values, p: Piece) -> u64
     while 0 < here.times {
         let next = here.held;
         if !same_held(s, values, held, next) {
-            return count;
+            return Passed {
+                count: count,
+                piece: here,
+            };
         }
         count += here.times;
         here = advanced(s, values, here);
     }
-    count
+    Passed {
+        count: count,
+        piece: here,
+    }
 }
 
-// Does a value stand here that equals no neighbour behind it?
-fn is_alone(s: &[u8], values: Values, p: Piece) -> bool
-    requires { ⌜ Going (elementOf values .E) (now s) p ⌝ }
-    ensures { λ r. ⌜ AloneIf (elementOf values .E) (now (s .entry)) p r ⌝ }
+// The values from here on that equal no neighbour, behind one that is not like the one here; that one is counted too.
+fn literal_run(s: &[u8], values: Values, p: Piece) -> Passed
+    requires { ⌜ Going (elementOf values .E) (now s) p × (suc (length (listOf (elementOf values .E) (now s) p)) ≤ limit) ⌝ }
+    ensures { λ r. ⌜ Going (elementOf values .E) (now (s .entry)) (r .piece) ⌝ }
+    ensures { λ r. ⌜ LoneRun (elementOf values .E) (listOf (elementOf values .E) (now (s .entry)) p) (r .count)
+        (listOf (elementOf values .E) (now (s .entry)) (r .piece)) ⌝ }
 {
-    let held = p.held;
-    if p.times != 1 {
-        return false;
-    }
-    if is_absent(held) {
-        return false;
-    }
-    let behind = advanced(s, values, p);
-    if behind.times == 0 {
-        return true;
-    }
-    let next = behind.held;
-    !same_held(s, values, held, next)
-}
-
-// How many values from here on each stand alone.
-fn literal_count(s: &[u8], values: Values, p: Piece) -> u64
-    requires { ⌜ Going (elementOf values .E) (now s) p ⌝ }
-    requires { ⌜ length (listOf (elementOf values .E) (now s) p) ≤ limit ⌝ }
-    ensures { λ r. ⌜ LoneFrom (elementOf values .E) (listOf (elementOf values .E) (now (s .entry)) p) r ⌝ }
-{
-    let mut count: u64 = 0;
+    let mut count: u64 = 1;
     let mut here = p;
-    while is_alone(s, values, here) {
+    while 0 < here.times {
+        let held = here.held;
+        if is_absent(held) {
+            return Passed {
+                count: count,
+                piece: here,
+            };
+        }
+        let run = same_run(s, values, here);
+        if run.count != 1 {
+            return Passed {
+                count: count,
+                piece: here,
+            };
+        }
         count += 1;
-        here = advanced(s, values, here);
+        here = run.piece;
     }
-    count
+    Passed {
+        count: count,
+        piece: here,
+    }
 }
 
 // The stretch here.
 pub(crate) fn stretch_at(s: &[u8], values: Values, p: Piece) -> StretchEnd
-    requires { ⌜ Going (elementOf values .E) (now s) p ⌝ }
-    requires { ⌜ (0 < p .times) × (length (listOf (elementOf values .E) (now s) p) ≤ limit) ⌝ }
+    requires { ⌜ Going (elementOf values .E) (now s) p × (0 < p .times) × (length (listOf (elementOf values .E) (now s) p) ≤ limit) ⌝ }
     ensures { λ r. ⌜ Found (elementOf values .E) (listOf (elementOf values .E) (now (s .entry)) p) r ⌝ }
 {
-    let n = same_count(s, values, p);
     let held = p.held;
+    let run = same_run(s, values, p);
+    let behind = run.piece;
     if is_absent(held) {
-        return StretchEnd::Absent(n as usize);
+        return StretchEnd::Absent(run.count as usize);
     }
-    if 2 <= n {
-        return StretchEnd::Repeat(n as usize);
+    if 2 <= run.count {
+        return StretchEnd::Repeat(run.count as usize);
     }
-    StretchEnd::Literal(literal_count(s, values, p) as usize)
+    let lone = literal_run(s, values, behind);
+    StretchEnd::Literal(lone.count as usize)
 }

@@ -17,17 +17,16 @@ ghost use Rattle.runs.specs.Values.{elementOf};
 ghost use Rattle.rle_form.specs.Turns.{endingOf, countIn, countBytes, Sound, stretchedFrom, Turned};
 
 pub mod ahead;
-pub mod walk;
 
-use crate::ahead::is_absent;
 use crate::ahead::stretch_at;
-use crate::walk::advanced;
-use crate::walk::first;
 use count_place::Place;
 use encoding::StretchEnd;
 use own_form::Form;
 use runs::RunEnd;
 use runs::Values;
+use runs::walk::advanced;
+use runs::walk::first;
+use runs::walk::is_absent;
 
 // Soundly, or with a fault's number and place.
 enum Ended {

@@ -6,7 +6,6 @@ use native.Mathlib.Omega.{arith}
 use lib.ListN.{length}
 use Rattle.leb128.specs.Got.{Got, got, bad}
 use Rattle.encoding.specs.Element.{Element}
-use Rattle.encoding.specs.Walk.{Next, on, off}
 use Rattle.encoding.proofs.Elements.{ElementLaws}
 use Rattle.rle_decoder.proofs.WordLaws.{u64-laws}
 use Rattle.delta_decoder.proofs.DifferenceLaws.{i64-laws}

@@ -5,6 +5,9 @@ ghost use Rattle.encoding.specs.Column.{spot, repeated, literals, runAt};
 ghost use Rattle.encoding.specs.Limit.{limit};
 ghost use Rattle.runs.specs.Cases.{endOf, nextOf};
 ghost use Rattle.runs.specs.Values.{elementOf, behind};
+
+pub mod walk;
+
 use encoding::Head;
 use leb128::ParsedI64;
 use leb128::ParsedU64;

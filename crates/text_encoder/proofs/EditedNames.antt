@@ -34,9 +34,9 @@ use Rattle.splice.specs.Steps.{ready, stopped, planFor}
 use Rattle.splice.proofs.Counting.{values-outcome, text-counts}
 use Rattle.splice.proofs.Planning.{sound-is, in-order, plan-stops, plan-ready}
 use Rattle.splice.proofs.Editing.{new-length, ready-edit, edit-answer, edit-output}
-use Rattle.text_encoder.specs.Cases.{fit}
+use Rattle.encoding.specs.Cases.{fit}
 use Rattle.text_encoder.specs.Edits.{newNames, Spliceable, Refilled, Refillable}
-use Rattle.text_encoder.proofs.Fits.{beyond-fit}
+use Rattle.encoding.proofs.Fits.{beyond-fit}
 use Rattle.text_encoder.proofs.Pairs.{pairs-given}
 use Rattle.text_encoder.proofs.WrittenNames.{fits-append, fits-take, fits-drop, length-same, flag-same, readBack, written, held}
 

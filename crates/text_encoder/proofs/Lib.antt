@@ -1,16 +1,13 @@
 pub mod Advanced
 pub mod Alike
 pub mod Answered
-pub mod Cutting
 pub mod Drawn
 pub mod EditedNames
 pub mod Entered
-pub mod Fits
 pub mod NamesLeft
 pub mod Pairs
 pub mod Passing
 pub mod Plain
 pub mod Refilling
-pub mod Runs
 pub mod Stretching
 pub mod WrittenNames

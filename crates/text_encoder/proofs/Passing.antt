@@ -1,6 +1,6 @@
 -- The list that is walked, as the loops over it see it: the reading that is held, and what comes behind it. Assumes nothing.
 use Prim.Native.Nat.{ℕ, zero, suc, _+_, _-_, _≤_, _<_}
-use mathlib.Core.Path.{_≡_, refl, _∙_, ap}
+use mathlib.Core.Path.{_≡_, refl, sym, _∙_, ap}
 use mathlib.Core.List.{List, [], _∷_, _++_}
 use mathlib.Core.Option.{Option}
 use mathlib.Core.Bool.{true}
@@ -8,22 +8,28 @@ use native.Mathlib.Omega.{arith}
 use lib.ListN.{length, take, replicate, length-append}
 use Rattle.leb128.specs.Write.{u64Bytes}
 use Rattle.encoding.specs.Writer.{allBytes, anyPresent}
+use Rattle.encoding.proofs.StretchParts.{Parts}
 use Rattle.encoding.proofs.Times.{piece-less, any-behind, any-first}
 use Rattle.text.specs.Text.{bytesAt, textBytes, textE}
 use Rattle.text_encoder.specs.declared.walk.Held.{Held}
 use Rattle.text_encoder.specs.declared.walk.Held.the-variants as held
 use Rattle.text_encoder.specs.declared.walk.Splicing.{Splicing}
-use Rattle.text_encoder.specs.Cuts.{somes}
-use Rattle.text_encoder.specs.Walks.{heldIn, Within, bytesOf, sizeIn, restOf, listOf, Going}
-use Rattle.text_encoder.proofs.Runs.{bytes-length, names-length}
+use Rattle.encoding.specs.Cuts.{somes, writtenIn}
+use Rattle.text_encoder.specs.Walks.{heldIn, Within, sizeIn, restOf, listOf, Going}
+use Rattle.encoding.proofs.Written.{bytes-length, values-length}
 
 -- ---- what is written of the reading that is held
+
+-- a name: its length number, and its bytes
+pub name-parts : (s : List ℕ) (i n : ℕ) → i + n ≤ length s → Parts (u64Bytes n) (bytesAt s i n) (textBytes (bytesAt s i n))
+unfolding textBytes
+name-parts s i n h = record { whole = ap (λ (k : ℕ). u64Bytes k ++ bytesAt s i n) (sym (bytes-length s i n h)) }
 
 text-length : (v : List ℕ) (n : ℕ) → length v ≡ n → length (textBytes v) ≡ length (u64Bytes n) + n
 unfolding textBytes
 text-length v n e = length-append (u64Bytes (length v)) v ∙ ap (λ (k : ℕ). length (u64Bytes k) + k) e
 
-pub held-length : (column bytes : List ℕ) (h : Held) → Within column bytes h → length (bytesOf (heldIn column bytes h)) ≡ sizeIn h
+pub held-length : (column bytes : List ℕ) (h : Held) → Within column bytes h → length (writtenIn textE (heldIn column bytes h)) ≡ sizeIn h
 held-length column bytes held.Absent w = refl
 held-length column bytes (held.Old start len) w = text-length (bytesAt column start len) len (bytes-length column start len w)
 held-length column bytes (held.New start len) w = text-length (bytesAt bytes start len) len (bytes-length bytes start len w)
@@ -47,7 +53,7 @@ module _ (column bytes : List ℕ) (new : List (Option (List ℕ))) (s : Splicin
   pub walk-size : (k : ℕ) (ys : List (Option (List ℕ))) → 0 < k → Within column bytes (s .held) → listOf column bytes new s ≡ heldIn column bytes (s .held) ∷ ys
       → length (allBytes textE (somes (take k (listOf column bytes new s)))) ≡ sizeIn (s .held) + length (allBytes textE (somes (take (k - 1) ys)))
   walk-size k ys l w e =
-      names-length l e ∙ ap (λ (n : ℕ). n + length (allBytes textE (somes (take (k - 1) ys)))) (held-length column bytes (s .held) w)
+      values-length textE l e ∙ ap (λ (n : ℕ). n + length (allBytes textE (somes (take (k - 1) ys)))) (held-length column bytes (s .held) w)
 
   -- ---- is any reading present
   pub walk-some : 0 < s .times → (s .held ≡ held.Absent → ⊥) → true ≡ anyPresent (listOf column bytes new s)

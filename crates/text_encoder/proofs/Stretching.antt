@@ -2,7 +2,7 @@
 -- nothing.
 use Prim.Native.Nat.{ℕ, zero, suc, _+_, _≤_, _<_}
 use mathlib.Core.Path.{_≡_, refl, sym, _∙_, ap, subst}
-use mathlib.Core.List.{List, [], _∷_, _++_}
+use mathlib.Core.List.{List, _∷_, _++_}
 use mathlib.Core.Option.{Option, none, some}
 use mathlib.Core.Bool.{Bool, true, false}
 use native.Mathlib.Omega.{arith}
@@ -14,15 +14,15 @@ use Rattle.text.specs.Text.{sameBytes}
 use Rattle.text.proofs.TextLaws.{text-laws}
 use Rattle.encoding.proofs.Fronts.{NoAbsent}
 use Rattle.encoding.proofs.Times.{same-more, same-counts, piece-less, piece-first}
-use Rattle.text_encoder.specs.Cuts.{CutOf, RepeatOf, PairedIn}
+use Rattle.encoding.specs.Cuts.{CutOf, RepeatOf, PairedIn}
 use Rattle.text_encoder.specs.Walks.{heldIn, nameIn, sameOf, restOf, listOf, Going}
 use Rattle.text_encoder.specs.declared.walk.Held.{Held}
 use Rattle.text_encoder.specs.declared.walk.Held.the-variants as held
 use Rattle.text_encoder.specs.declared.walk.Splicing.{Splicing}
 use Rattle.text_encoder.proofs.Alike.{held-none, held-name, same-true, off-end, off-other, closed-none-first}
 use Rattle.text_encoder.proofs.Passing.{walk-over}
-use Rattle.text_encoder.proofs.Cutting.{absent-stretch, repeat-of, repeat-stretch, lone, closed-pair}
-use Rattle.text_encoder.proofs.Cutting.{Unlike, unlike-start, unlike-counts, unlike-more, literal-stretch}
+use Rattle.encoding.proofs.Cutting.{absent-stretch, repeat-of, repeat-stretch, lone, closed-pair}
+use Rattle.encoding.proofs.Cutting.{Unlike, unlike-start, unlike-counts, unlike-more, literal-stretch}
 
 -- ---- the same reading
 
@@ -119,16 +119,16 @@ module _ (column bytes : List ℕ) (new : List (Option (List ℕ))) (w : Splicin
 module _ (column bytes : List ℕ) (new : List (Option (List ℕ))) (s w₀ : Splicing) (c : ℕ) (w : Splicing)
     (at : Going column bytes new s) (absent : s .held ≡ held.Absent) (next : listOf column bytes new w₀ ≡ restOf column new s)
     (h : SameTo column bytes new none (s .times) w₀ c w) where
-  absents : NoAbsent sameBytes (listOf column bytes new w) → CutOf sameBytes [] (listOf column bytes new s) (stretch.Absent c) (listOf column bytes new w)
+  absents : NoAbsent sameBytes (listOf column bytes new w) → CutOf sameBytes (listOf column bytes new s) (stretch.Absent c) (listOf column bytes new w)
   absents b =
-      absent-stretch sameBytes [] c (listOf column bytes new s) (listOf column bytes new w) (h .later)
+      absent-stretch sameBytes c (listOf column bytes new s) (listOf column bytes new w) (h .later)
       (passed column bytes new none s w₀ (held-none column bytes (s .held) absent) next ∙ h .whole) b
 
   pub absents-held : 0 < w .times → (w .held ≡ held.Absent → ⊥)
-      → CutOf sameBytes [] (listOf column bytes new s) (stretch.Absent c) (listOf column bytes new w)
+      → CutOf sameBytes (listOf column bytes new s) (stretch.Absent c) (listOf column bytes new w)
   absents-held l f = absents (begun-held column bytes new w l f)
 
-  pub absents-end : w .times ≤ 0 → CutOf sameBytes [] (listOf column bytes new s) (stretch.Absent c) (listOf column bytes new w)
+  pub absents-end : w .times ≤ 0 → CutOf sameBytes (listOf column bytes new s) (stretch.Absent c) (listOf column bytes new w)
   absents-end l = absents (begun-end column bytes new w (h .going) l)
 
 -- ---- one name from s on
@@ -242,10 +242,10 @@ module _ (column bytes : List ℕ) (new : List (Option (List ℕ))) where
       pub apart-stop : (s .held ≡ held.Absent → ⊥)
           → Off sameBytes (nameIn (heldIn column bytes (s .held))) (stretches sameBytes (drop 1 (listOf column bytes new s)))
           → Closed (stretches sameBytes (listOf column bytes new w))
-          → CutOf sameBytes [] (listOf column bytes new s) (stretch.Literal c) (listOf column bytes new w)
+          → CutOf sameBytes (listOf column bytes new s) (stretch.Literal c) (listOf column bytes new w)
       apart-stop f o k =
           let x = heldIn column bytes (s .held) in
-          literal-stretch sameBytes (text-laws .same-eq) (text-laws .same-self) [] (nameIn x) (listOf column bytes new s) (listOf column bytes new w₀)
+          literal-stretch sameBytes (text-laws .same-eq) (text-laws .same-self) (nameIn x) (listOf column bytes new s) (listOf column bytes new w₀)
           (listOf column bytes new w) c
           (first ∙ ap (λ (y : Option (List ℕ)). y ∷ listOf column bytes new w₀) (held-name column bytes (s .held) f))
           o (h .unlike) k
@@ -260,10 +260,10 @@ pair-found column bytes new w g b p e = subst (PairedIn sameBytes (nameIn (heldI
 module _ (column bytes : List ℕ) (new : List (Option (List ℕ))) (s w : Splicing) (k : ℕ) (at : Going column bytes new s) (behind : Going column bytes new w)
     (h : RepeatOf sameBytes (nameIn (heldIn column bytes (s .held))) (listOf column bytes new s) k (listOf column bytes new w)) where
   pub repeat-found : 0 < s .times → (s .held ≡ held.Absent → ⊥) → 2 ≤ k
-      → CutOf sameBytes [] (listOf column bytes new s) (stretch.Repeat k) (listOf column bytes new w)
+      → CutOf sameBytes (listOf column bytes new s) (stretch.Repeat k) (listOf column bytes new w)
   repeat-found l f m =
       let x = heldIn column bytes (s .held) in
-      repeat-stretch sameBytes (text-laws .same-eq) (text-laws .same-self) [] (nameIn x) k (listOf column bytes new s) (listOf column bytes new w)
+      repeat-stretch sameBytes (text-laws .same-eq) (text-laws .same-self) (nameIn x) k (listOf column bytes new s) (listOf column bytes new w)
       (drop 1 (listOf column bytes new s)) h m
       (piece-first (s .times) (some (nameIn x)) x (restOf column new s) l (held-name column bytes (s .held) f))
 

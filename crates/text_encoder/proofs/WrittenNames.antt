@@ -20,7 +20,7 @@ use Rattle.slots.specs.Splice.{inSlots}
 use Rattle.splice.specs.Contract.{flagIn, lengthIn}
 use Rattle.text_encoder.specs.Edits.{refilled}
 use Rattle.text_encoder.proofs.Plain.{nothing-sound, nothing-read}
-use Rattle.text_encoder.proofs.Runs.{column-none}
+use Rattle.encoding.proofs.Written.{column-none}
 
 -- ---- lists that can be written, in parts
 abbrev Fits : List (Option (List ℕ)) → Type 0
@@ -97,7 +97,7 @@ full xs h k e =
 
 none-there : (xs : List (Option (List ℕ))) → anyPresent xs ≡ false → Written xs
 none-there xs e =
-    let w = column-none xs e in
+    let w = column-none textE xs e in
     let r : readBack xs ≡ [] = ap (λ (s : List ℕ). trace textE s .readings) w ∙ nothing-read in
     record {
       sound = ap (λ (s : List ℕ). outcome (trace textE s)) w ∙ nothing-sound ∙ ap (λ (l : List (Reading (List ℕ))). done (length l)) (nothing-read ∙ sym r);

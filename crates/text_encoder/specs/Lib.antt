@@ -1,4 +1,2 @@
-pub mod Cases
-pub mod Cuts
 pub mod Edits
 pub mod Walks

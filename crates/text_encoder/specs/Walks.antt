@@ -10,7 +10,7 @@ use Rattle.leb128.specs.Write.{u64Bytes}
 use Rattle.encoding.specs.Column.{Reading, absent, present, value}
 use Rattle.encoding.specs.Walk.{Trace, sound}
 use Rattle.cursor.specs.Cursor.{Sort, same, literal, cursor, coming}
-use Rattle.text.specs.Text.{bytesAt, textBytes, sameBytes, textE}
+use Rattle.text.specs.Text.{bytesAt, sameBytes, textE}
 use Rattle.text.specs.Given.{nameList, badPair}
 use Rattle.text_encoder.specs.declared.walk.Held.{Held}
 use Rattle.text_encoder.specs.declared.walk.Held.the-variants as held
@@ -31,16 +31,12 @@ Within column bytes held.Absent = Unit {0}
 Within column bytes (held.Old start len) = start + len ≤ length column
 Within column bytes (held.New start len) = start + len ≤ length bytes
 
--- the name of a reading, and what is written of it; nothing of an absent one
+-- the name of a reading; none of an absent one
 abbrev pub nameIn : Option (List ℕ) → List ℕ
 nameIn none = []
 nameIn (some v) = v
 
-abbrev pub bytesOf : Option (List ℕ) → List ℕ
-bytesOf none = []
-bytesOf (some v) = textBytes v
-
--- how many bytes that is
+-- how many bytes are written of it
 abbrev pub sizeIn : Held → ℕ
 sizeIn held.Absent = 0
 sizeIn (held.Old start len) = length (u64Bytes len) + len

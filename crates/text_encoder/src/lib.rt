@@ -5,13 +5,12 @@ ghost use Prim.Native.Nat.{_-_, _^_, _≤_};
 ghost use lib.ListN.{length};
 ghost use lib.Seq.{sets};
 ghost use Rattle.leb128.specs.Answer.{within};
-ghost use Rattle.encoding.specs.Cases.{answerOf};
+ghost use Rattle.encoding.specs.Cases.{answerOf, sizeOf, fit};
 ghost use Rattle.encoding.specs.Given.{sized, Encoded};
 ghost use Rattle.encoding.specs.Limit.{limit};
 ghost use Rattle.encoding.specs.Writer.{columnBytes};
 ghost use Rattle.text.specs.Text.{textE};
 ghost use Rattle.text.specs.Given.{nameList, namesJudged};
-ghost use Rattle.text_encoder.specs.Cases.{sizeOf, fit};
 ghost use Rattle.text_encoder.specs.Walks.{Pairs};
 
 pub mod range;
@@ -21,10 +20,10 @@ mod stretches;
 mod walk;
 mod writing;
 
-use crate::sizes::Size;
 use crate::spliced::put_spliced;
 use crate::spliced::spliced_len;
 use encoding::Answer;
+use encoding::Size;
 
 // How many bytes a list that was judged takes.
 fn list_len(bytes: &[u8], starts: &[u64], lens: &[u64], present: &[u8]) -> Size

@@ -1,6 +1,5 @@
 // How many bytes the list that is walked takes as a column. Names that overlap in their lent bytes can take more than a u64 counts.
 ghost use mathlib.Core.Path.{_≡_};
-ghost use mathlib.Core.List.{[]};
 ghost use Prim.Native.Nat.{_+_, _≤_, _<_};
 ghost use lib.ListN.{length, take};
 ghost use Rattle.encoding.specs.Ahead.{endOf};
@@ -8,8 +7,8 @@ ghost use Rattle.encoding.specs.Limit.{limit};
 ghost use Rattle.encoding.specs.Stretches.{stretches};
 ghost use Rattle.encoding.specs.Writer.{allBytes, stretchBytes, stretchesBytes, anyPresent, columnBytes};
 ghost use Rattle.text.specs.Text.{sameBytes, textE};
-ghost use Rattle.text_encoder.specs.Cases.{sizeOf, fit};
-ghost use Rattle.text_encoder.specs.Cuts.{somes, stretchIn, PresentIn};
+ghost use Rattle.encoding.specs.Cases.{sizeOf, fit};
+ghost use Rattle.encoding.specs.Cuts.{somes, stretchIn, PresentIn};
 ghost use Rattle.text_encoder.specs.Walks.{sizeIn, At, namesFrom, Pairs};
 use crate::stretches::is_absent;
 use crate::stretches::stretch_at;
@@ -17,13 +16,8 @@ use crate::walk::Held;
 use crate::walk::Splicing;
 use crate::walk::advanced;
 use crate::walk::stepped;
+use encoding::Size;
 use encoding::StretchEnd;
-
-// So many bytes; or more than a u64 counts.
-pub(crate) enum Size {
-    Is(u64),
-    Beyond,
-}
 
 fn sum(a: u64, b: u64) -> Size
     ensures { λ r. ⌜ sizeOf r ≡ fit (a + b) ⌝ }
@@ -106,7 +100,7 @@ fn stretch_len(
     requires { ⌜ length (namesFrom (now column) (now bytes) (now starts) (now lens) (now present) s) ≤ limit ⌝ }
     requires { ⌜ (0 < s .times) × PresentIn (namesFrom (now column) (now bytes) (now starts) (now lens) (now present) s) stretch ⌝ }
     requires { ⌜ (0 < endOf stretch) × (endOf stretch ≤ length (namesFrom (now column) (now bytes) (now starts) (now lens) (now present) s)) ⌝ }
-    ensures { λ r. ⌜ sizeOf r ≡ fit (length (stretchBytes textE (stretchIn []
+    ensures { λ r. ⌜ sizeOf r ≡ fit (length (stretchBytes textE (stretchIn
         (namesFrom (now (column .entry)) (now (bytes .entry)) (now (starts .entry)) (now (lens .entry)) (now (present .entry)) s) stretch))) ⌝ }
 {
     let held = s.held;

@@ -5,12 +5,12 @@ ghost use lib.ListN.{length};
 ghost use lib.Seq.{sets};
 ghost use Rattle.encoding.specs.Writer.{columnBytes};
 ghost use Rattle.text.specs.Text.{textE};
-ghost use Rattle.text_encoder.specs.Cases.{sizeOf, fit};
+ghost use Rattle.encoding.specs.Cases.{sizeOf, fit};
 ghost use Rattle.text_encoder.specs.Edits.{newNames, Spliceable};
-use crate::sizes::Size;
 use crate::sizes::column_len;
 use crate::walk::first;
 use crate::writing::put_column;
+use encoding::Size;
 
 // How many bytes they take.
 pub(crate) fn spliced_len(

@@ -1,13 +1,12 @@
 // The stretches of the list that is walked, found by looking ahead with copies of the walk.
 ghost use mathlib.Core.Path.{_≡_};
-ghost use mathlib.Core.List.{[]};
 ghost use Prim.Native.Nat.{_+_, _≤_, _<_};
 ghost use lib.ListN.{length, drop};
 ghost use Rattle.encoding.specs.Ahead.{Off};
 ghost use Rattle.encoding.specs.Limit.{limit};
 ghost use Rattle.encoding.specs.Stretches.{stretches};
 ghost use Rattle.text.specs.Text.{bytesAt, sameBytes};
-ghost use Rattle.text_encoder.specs.Cuts.{CutOf, RepeatOf, PairedIn};
+ghost use Rattle.encoding.specs.Cuts.{CutOf, RepeatOf, PairedIn};
 ghost use Rattle.text_encoder.specs.Walks.{AbsentIf, heldIn, Within, nameIn, sameAs, sameOf, At, namesFrom, Pairs};
 use crate::walk::Held;
 use crate::walk::Splicing;
@@ -83,7 +82,7 @@ fn absent_end(
     requires { ⌜ length (namesFrom (now column) (now bytes) (now starts) (now lens) (now present) s) ≤ limit ⌝ }
     requires { ⌜ (0 < s .times) × (s .held ≡ Held.Absent) ⌝ }
     ensures { λ r. ⌜ At (now (column .entry)) (now (bytes .entry)) (now (starts .entry)) (now (lens .entry)) (now (present .entry)) (r .walk) ⌝ }
-    ensures { λ r. ⌜ CutOf sameBytes []
+    ensures { λ r. ⌜ CutOf sameBytes
         (namesFrom (now (column .entry)) (now (bytes .entry)) (now (starts .entry)) (now (lens .entry)) (now (present .entry)) s)
         (StretchEnd.Absent (r .count))
         (namesFrom (now (column .entry)) (now (bytes .entry)) (now (starts .entry)) (now (lens .entry)) (now (present .entry)) (r .walk)) ⌝ }
@@ -189,7 +188,7 @@ fn literal_end(
     requires { ⌜ Off sameBytes (nameIn (heldIn (now column) (now bytes) (s .held)))
         (stretches sameBytes (drop 1 (namesFrom (now column) (now bytes) (now starts) (now lens) (now present) s))) ⌝ }
     ensures { λ r. ⌜ At (now (column .entry)) (now (bytes .entry)) (now (starts .entry)) (now (lens .entry)) (now (present .entry)) (r .walk) ⌝ }
-    ensures { λ r. ⌜ CutOf sameBytes []
+    ensures { λ r. ⌜ CutOf sameBytes
         (namesFrom (now (column .entry)) (now (bytes .entry)) (now (starts .entry)) (now (lens .entry)) (now (present .entry)) s)
         (StretchEnd.Literal (r .count))
         (namesFrom (now (column .entry)) (now (bytes .entry)) (now (starts .entry)) (now (lens .entry)) (now (present .entry)) (r .walk)) ⌝ }
@@ -233,7 +232,7 @@ pub(crate) fn stretch_at(
     requires { ⌜ length (namesFrom (now column) (now bytes) (now starts) (now lens) (now present) s) ≤ limit ⌝ }
     requires { ⌜ 0 < s .times ⌝ }
     ensures { λ r. ⌜ At (now (column .entry)) (now (bytes .entry)) (now (starts .entry)) (now (lens .entry)) (now (present .entry)) (r .walk) ⌝ }
-    ensures { λ r. ⌜ CutOf sameBytes []
+    ensures { λ r. ⌜ CutOf sameBytes
         (namesFrom (now (column .entry)) (now (bytes .entry)) (now (starts .entry)) (now (lens .entry)) (now (present .entry)) s)
         (r .stretch)
         (namesFrom (now (column .entry)) (now (bytes .entry)) (now (starts .entry)) (now (lens .entry)) (now (present .entry)) (r .walk)) ⌝ }

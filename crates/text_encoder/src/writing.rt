@@ -1,6 +1,5 @@
 // The list that is walked, written as a column.
 ghost use mathlib.Core.Path.{_≡_};
-ghost use mathlib.Core.List.{[]};
 ghost use Prim.Native.Nat.{_+_, _≤_, _<_};
 ghost use lib.ListN.{length, take};
 ghost use lib.Seq.{sets};
@@ -10,8 +9,8 @@ ghost use Rattle.encoding.specs.Limit.{limit};
 ghost use Rattle.encoding.specs.Stretches.{stretches};
 ghost use Rattle.encoding.specs.Writer.{allBytes, stretchBytes, stretchesBytes, columnBytes};
 ghost use Rattle.text.specs.Text.{bytesAt, textBytes, sameBytes, textE};
-ghost use Rattle.text_encoder.specs.Cuts.{somes, stretchIn, PresentIn};
-ghost use Rattle.text_encoder.specs.Walks.{heldIn, Within, bytesOf, At, namesFrom, Pairs};
+ghost use Rattle.encoding.specs.Cuts.{somes, writtenIn, stretchIn, PresentIn};
+ghost use Rattle.text_encoder.specs.Walks.{heldIn, Within, At, namesFrom, Pairs};
 use crate::sizes::any_present;
 use crate::stretches::stretch_at;
 use crate::walk::Held;
@@ -66,8 +65,8 @@ fn put_name(s: &[u8], i: usize, n: usize, out: &mut [u8], at: usize) -> usize
 // The reading that is held; nothing of an absent one.
 fn put_held(column: &[u8], bytes: &[u8], held: Held, out: &mut [u8], at: usize) -> usize
     requires { ⌜ Within (now column) (now bytes) held ⌝ }
-    requires { ⌜ at + length (bytesOf (heldIn (now column) (now bytes) held)) ≤ length (now out) ⌝ }
-    ensures { λ r. ⌜ PutAt (now (out .entry)) (now (out .exit)) at r (bytesOf (heldIn (now (column .entry)) (now (bytes .entry)) held)) ⌝ }
+    requires { ⌜ at + length (writtenIn textE (heldIn (now column) (now bytes) held)) ≤ length (now out) ⌝ }
+    ensures { λ r. ⌜ PutAt (now (out .entry)) (now (out .exit)) at r (writtenIn textE (heldIn (now (column .entry)) (now (bytes .entry)) held)) ⌝ }
 {
     match held {
         Held::Absent => at,
@@ -124,9 +123,9 @@ fn put_stretch(
     requires { ⌜ length (namesFrom (now column) (now bytes) (now starts) (now lens) (now present) s) ≤ limit ⌝ }
     requires { ⌜ (0 < s .times) × PresentIn (namesFrom (now column) (now bytes) (now starts) (now lens) (now present) s) stretch ⌝ }
     requires { ⌜ (0 < endOf stretch) × (endOf stretch ≤ length (namesFrom (now column) (now bytes) (now starts) (now lens) (now present) s)) ⌝ }
-    requires { ⌜ at + length (stretchBytes textE (stretchIn []
+    requires { ⌜ at + length (stretchBytes textE (stretchIn
         (namesFrom (now column) (now bytes) (now starts) (now lens) (now present) s) stretch)) ≤ length (now out) ⌝ }
-    ensures { λ r. ⌜ PutAt (now (out .entry)) (now (out .exit)) at r (stretchBytes textE (stretchIn []
+    ensures { λ r. ⌜ PutAt (now (out .entry)) (now (out .exit)) at r (stretchBytes textE (stretchIn
         (namesFrom (now (column .entry)) (now (bytes .entry)) (now (starts .entry)) (now (lens .entry)) (now (present .entry)) s) stretch)) ⌝ }
 {
     let held = s.held;

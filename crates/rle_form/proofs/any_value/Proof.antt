@@ -7,8 +7,8 @@ use Rattle.encoding.specs.Column.{trace}
 use Rattle.encoding.specs.Writer.{anyPresent}
 use Rattle.runs.specs.Values.{elementOf}
 use Rattle.runs.proofs.Ends.{elementLaws}
-use Rattle.rle_form.specs.Pieces.{listOf, Going}
-use Rattle.rle_form.proofs.Held.{absent-true, absent-false}
+use Rattle.runs.specs.Pieces.{listOf, Going}
+use Rattle.runs.proofs.Held.{absent-true, absent-false}
 use Rattle.rle_form.proofs.Looked.{passed-less}
 use Rattle.rle_form.proofs.Turning.{any-held, any-passed, any-ended}
 use Rattle.rle_form.proofs.any_value.Statement.{statement}
@@ -45,7 +45,8 @@ loop-less : tie.Need-loop-less Inv-loop μ-loop
 loop-less c =
     let a = c .before .before .before .before .before .before .before .before .args in
     let k = c .advanced .ensures in
-    passed-less _ (elementLaws (a .values)) (a .s .now) _ _ (c .before .before .before .before .before .loop .inv .0) (k .0) (c .before .before .before .if1 .taken) (k .1)
+    passed-less _ (elementLaws (a .values)) (a .s .now) (c .before .before .before .before .before .loop .p) (c .advanced .result)
+    (c .before .before .before .if1 .taken) (k .1)
 
 loop-again : tie.Need-loop-again Inv-loop μ-loop
 loop-again c =

@@ -29,7 +29,7 @@ stretch-at-requires c κs =
     let L = elementLaws (a .values) in
     let p = c .before .before .before .before .pre in
     let w = c .before .before .first .ensures in
-    (w .0, (omega arith, turn-few _ L (a .s .now) (a .at) (a .had) (p .0) _ (w .1)))
+    (w .0, omega arith, turn-few _ L (a .s .now) (a .at) (a .had) (p .0) _ (w .1))
 
 compare-count-requires : tie.Need-compare-count-requires
 compare-count-requires c κs =

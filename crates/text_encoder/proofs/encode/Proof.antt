@@ -4,7 +4,8 @@ use borrow.Author.Needs.{needs}
 use Rattle.encoding.specs.Cases.{answerOf}
 use Rattle.encoding.proofs.Via.{via}
 use Rattle.encoding.proofs.Putting.{sized-is, encode-short, encode-done}
-use Rattle.text_encoder.proofs.Answered.{judged-pairs, len-sized, names-refused}
+use Rattle.encoding.proofs.Answered.{len-sized, list-refused}
+use Rattle.text_encoder.proofs.Answered.{judged-pairs}
 use Rattle.text_encoder.proofs.encode.Statement.{statement}
 use Rattle.text_encoder.proofs.encode.Tie as tie
 
@@ -39,7 +40,7 @@ returns-2 c =
 returns-3 : tie.Need-returns-3
 returns-3 c =
     let e = via answerOf (c .before .before .before .encoded-len .ensures) (c .before .n2 .given .1) in
-    names-refused _ _ _ _ _ e (omega (arith, c .before .before .before .before .before .before .before .before .before .good))
+    list-refused _ _ _ _ _ e (omega (arith, c .before .before .before .before .before .before .before .before .before .good))
 
 pub encode-spec : {M : Type 1} → statement M
 encode-spec =

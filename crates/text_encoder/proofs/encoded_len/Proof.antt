@@ -3,8 +3,9 @@ use mathlib.Core.Path.{sym}
 use borrow.Author.Needs.{needs}
 use Rattle.encoding.specs.Cases.{answerOf}
 use Rattle.encoding.proofs.Via.{via}
-use Rattle.text_encoder.specs.Cases.{sizeOf}
-use Rattle.text_encoder.proofs.Answered.{judged-pairs, len-refused, len-is, len-beyond}
+use Rattle.encoding.specs.Cases.{sizeOf}
+use Rattle.encoding.proofs.Answered.{len-refused, len-is, len-beyond}
+use Rattle.text_encoder.proofs.Answered.{judged-pairs}
 use Rattle.text_encoder.proofs.encoded_len.Statement.{statement}
 use Rattle.text_encoder.proofs.encoded_len.Tie as tie
 

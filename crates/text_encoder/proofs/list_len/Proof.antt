@@ -8,7 +8,7 @@ use lib.ListN.{length}
 use borrow.Author.Needs.{needs}
 use Rattle.encoding.specs.Writer.{columnBytes}
 use Rattle.text.specs.Text.{textE}
-use Rattle.text_encoder.specs.Cases.{fit}
+use Rattle.encoding.specs.Cases.{fit}
 use Rattle.text_encoder.proofs.Plain.{nothing-spliced, nothing-spliceable}
 use Rattle.text_encoder.proofs.list_len.Statement.{statement}
 use Rattle.text_encoder.proofs.list_len.Tie as tie

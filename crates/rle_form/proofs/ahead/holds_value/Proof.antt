@@ -4,7 +4,7 @@ use native.Mathlib.Omega.{arith}
 use lib.ListN.{getD}
 use borrow.Author.Needs.{needs}
 use Rattle.runs.proofs.Ends.{elementLaws}
-use Rattle.rle_form.proofs.Held.{part-within, within-as, alike-absent, alike-parts}
+use Rattle.runs.proofs.Held.{part-within, within-as, alike-absent, alike-parts}
 use Rattle.rle_form.proofs.ahead.holds_value.Statement.{statement}
 use Rattle.rle_form.proofs.ahead.holds_value.Tie as tie
 
@@ -26,7 +26,7 @@ same-parts-requires c κs =
 returns : tie.Need-returns
 returns c =
     let a = c .before .before .before .args in
-    alike-absent _ (elementLaws (a .values)) (a .s .now) (a .held) (a .from) (a .till) (c .before .before .before .pre .1) (c .enum-told .given .1)
+    alike-absent _ (elementLaws (a .values)) (a .s .now) (a .s .now) (a .held) (a .from) (a .till) (c .before .before .before .pre .1) (c .enum-told .given .1)
 
 returns-2 : tie.Need-returns-2
 returns-2 c =
@@ -35,7 +35,7 @@ returns-2 c =
     let L = elementLaws (a .values) in
     let B : (j : ℕ) → getD (a .s .now) j 0 < 256 = λ j. omega (arith, c .before .before .before .before .shared-slice-known .given j) in
     let w = within-as _ L (a .s .now) (a .held) _ _ (c .before .before .held .given .1) (p .0) in
-    alike-parts _ L (a .s .now) (a .held) (a .from) (a .till) (p .1) B _ _ (c .before .before .held .given .1) w (c .same-parts .ensures)
+    alike-parts _ L (a .s .now) (a .s .now) (a .held) (a .from) (a .till) (p .1) B B _ _ (c .before .before .held .given .1) w (c .same-parts .ensures)
 
 pub holds-value-spec : {M : Type 1} → statement M
 holds-value-spec =

@@ -1,7 +1,7 @@
 -- `rle_form::ahead::same_held` meets its contract: by the second reading. Assumes nothing.
 use borrow.Author.Needs.{needs}
 use Rattle.runs.proofs.Ends.{elementLaws}
-use Rattle.rle_form.proofs.Held.{within-as, alike-with, alike-none}
+use Rattle.runs.proofs.Held.{within-as, alike-with, alike-none}
 use Rattle.rle_form.proofs.ahead.same_held.Statement.{statement}
 use Rattle.rle_form.proofs.ahead.same_held.Tie as tie
 
@@ -23,12 +23,13 @@ holds-value-requires c κs =
 returns : tie.Need-returns
 returns c =
     let a = c .before .before .before .before .args in
-    alike-none _ (elementLaws (a .values)) (a .s .now) (a .a) (a .b) _ (c .before .before .before .before .pre .0) (c .before .enum-told .given .1) (c .is-absent .ensures)
+    alike-none _ (elementLaws (a .values)) (a .s .now) (a .s .now) (a .a) (a .b) _ (c .before .before .before .before .pre .0) (c .before .enum-told .given .1)
+    (c .is-absent .ensures)
 
 returns-2 : tie.Need-returns-2
 returns-2 c =
     let a = c .before .before .before .before .before .args in
-    alike-with _ (elementLaws (a .values)) (a .s .now) (a .a) (a .b) _ _ (c .before .before .b .given .1) (c .holds-value .ensures)
+    alike-with _ (elementLaws (a .values)) (a .s .now) (a .s .now) (a .a) (a .b) _ _ (c .before .before .b .given .1) (c .holds-value .ensures)
 
 pub same-held-spec : {M : Type 1} → statement M
 same-held-spec =

@@ -7,9 +7,9 @@ use Rattle.encoding.specs.Writer.{columnBytes}
 use Rattle.text.specs.Text.{textE}
 use denote.Ref.{now}
 use Rattle.encoding.proofs.Via.{via}
-use Rattle.text_encoder.specs.Cases.{sizeOf, fit}
+use Rattle.encoding.specs.Cases.{sizeOf, fit}
 use Rattle.text_encoder.specs.Edits.{newNames}
-use Rattle.text_encoder.proofs.Fits.{is-fit}
+use Rattle.encoding.proofs.Fits.{is-fit}
 use Rattle.text_encoder.proofs.EditedNames.{names-spliceable, names-beyond}
 use borrow.Author.Needs.{needs}
 use Rattle.text_encoder.proofs.range.edit_text.Statement.{statement}

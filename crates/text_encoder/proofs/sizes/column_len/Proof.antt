@@ -6,9 +6,10 @@ use native.Mathlib.Omega.{arith}
 use lib.ListN.{length}
 use borrow.Author.Tests.{not-true, not-false}
 use borrow.Author.Needs.{needs}
-use Rattle.text_encoder.specs.Cases.{fit}
-use Rattle.text_encoder.proofs.Fits.{fit-is}
-use Rattle.text_encoder.proofs.Runs.{column-some, column-none}
+use Rattle.encoding.specs.Cases.{fit}
+use Rattle.encoding.proofs.Fits.{fit-is}
+use Rattle.encoding.proofs.Written.{column-some, column-none}
+use Rattle.text.specs.Text.{textE}
 use Rattle.text_encoder.proofs.sizes.column_len.Statement.{statement}
 use Rattle.text_encoder.proofs.sizes.column_len.Tie as tie
 
@@ -18,7 +19,7 @@ any-present-requires c κs = search needs
 returns : tie.Need-returns
 returns c =
     let e = sym (c .before .any-present .ensures) ∙ not-true _ (c .if1 .taken) in
-    fit-is 0 (omega arith) ∙ sym (ap (λ (b : List ℕ). fit (length b)) (column-none _ e))
+    fit-is 0 (omega arith) ∙ sym (ap (λ (b : List ℕ). fit (length b)) (column-none textE _ e))
 
 bytes-len-requires : tie.Need-bytes-len-requires
 bytes-len-requires c κs = search needs
@@ -26,7 +27,7 @@ bytes-len-requires c κs = search needs
 returns-2 : tie.Need-returns-2
 returns-2 c =
     let e = sym (c .before .before .any-present .ensures) ∙ not-false _ (c .before .if1 .left) in
-    c .bytes-len .ensures ∙ sym (ap (λ (b : List ℕ). fit (length b)) (column-some _ e))
+    c .bytes-len .ensures ∙ sym (ap (λ (b : List ℕ). fit (length b)) (column-some textE _ e))
 
 pub column-len-spec : {M : Type 1} → statement M
 column-len-spec =

@@ -2,8 +2,8 @@
 use mathlib.Core.Path.{sym}
 use borrow.Author.Needs.{needs}
 use Rattle.encoding.proofs.Via.{via}
-use Rattle.text_encoder.specs.Cases.{sizeOf}
-use Rattle.text_encoder.proofs.Fits.{sum-is, sum-beyond}
+use Rattle.encoding.specs.Cases.{sizeOf}
+use Rattle.encoding.proofs.Fits.{sum-is, sum-beyond}
 use Rattle.text_encoder.proofs.sizes.counted.Statement.{statement}
 use Rattle.text_encoder.proofs.sizes.counted.Tie as tie
 

@@ -2,10 +2,10 @@
 use mathlib.Core.Path.{sym, _∙_, ap}
 use native.Mathlib.Omega.{arith}
 use borrow.Author.Needs.{needs}
-use Rattle.text_encoder.specs.Cases.{fit}
+use Rattle.encoding.specs.Cases.{fit}
 use Rattle.text_encoder.specs.Walks.{sizeIn}
 use Rattle.text_encoder.specs.declared.walk.Held.{Held}
-use Rattle.text_encoder.proofs.Fits.{fit-is}
+use Rattle.encoding.proofs.Fits.{fit-is}
 use Rattle.text_encoder.proofs.sizes.held_len.Statement.{statement}
 use Rattle.text_encoder.proofs.sizes.held_len.Tie as tie
 

@@ -8,12 +8,12 @@ use Rattle.encoding.specs.Writer.{allBytes}
 use Rattle.encoding.proofs.Via.{via}
 use Rattle.text.specs.Text.{textE}
 use Rattle.text.specs.Given.{nameList}
-use Rattle.text_encoder.specs.Cases.{sizeOf, fit}
-use Rattle.text_encoder.specs.Cuts.{somes}
+use Rattle.encoding.specs.Cases.{sizeOf, fit}
+use Rattle.encoding.specs.Cuts.{somes}
 use Rattle.text_encoder.specs.Walks.{At, namesFrom}
-use Rattle.text_encoder.proofs.Fits.{is-fit, owed-on, owed-beyond, owed-end}
+use Rattle.encoding.proofs.Fits.{is-fit, owed-on, owed-beyond, owed-end}
 use Rattle.text_encoder.proofs.Passing.{walk-first, walk-size, walk-there}
-use Rattle.text_encoder.proofs.Runs.{names-over}
+use Rattle.encoding.proofs.Written.{values-over}
 use Rattle.text_encoder.proofs.sizes.literal_len.Statement.{statement}
 use Rattle.text_encoder.proofs.sizes.literal_len.Tie as tie
 
@@ -82,7 +82,7 @@ loop-again c =
 returns-2 : tie.Need-returns-2 Inv-loop μ-loop
 returns-2 c =
     let h = c .before .loop .inv in
-    let o = names-over _ (c .loop-test .left) in
+    let o = values-over textE _ (c .loop-test .left) in
     owed-end _ _ (h .3) (ap length o) (h .2)
 
 pub literal-len-spec : {M : Type 1} → statement M

@@ -6,11 +6,12 @@ use borrow.Author.Needs.{needs}
 use Rattle.leb128.proofs.Laws.{u64-short, i64-short}
 use Rattle.encoding.specs.Ahead.{endOf}
 use Rattle.encoding.proofs.StretchParts.{parts-length}
+use Rattle.text.specs.Text.{textE}
 use Rattle.text.specs.Given.{nameList}
-use Rattle.text_encoder.specs.Cases.{fit}
-use Rattle.text_encoder.proofs.Fits.{fit-is}
+use Rattle.encoding.specs.Cases.{fit}
+use Rattle.encoding.proofs.Fits.{fit-is}
 use Rattle.text_encoder.proofs.Passing.{held-length, walk-first}
-use Rattle.text_encoder.proofs.Runs.{absent-in, repeat-in, literal-in}
+use Rattle.encoding.proofs.Written.{absent-in, repeat-in, literal-in}
 use Rattle.text_encoder.proofs.sizes.stretch_len.Statement.{statement}
 use Rattle.text_encoder.proofs.sizes.stretch_len.Tie as tie
 
@@ -68,7 +69,7 @@ literal-len-requires c κs =
 returns : tie.Need-returns
 returns c =
     let k = c .before .before .before .stretch .given .0 .0 in
-    let z = parts-length (absent-in _ (c .before .before .before .stretch .given .1)) (c .before .len-i64 .ensures) (c .len-u64 .ensures) in
+    let z = parts-length (absent-in textE _ (c .before .before .before .stretch .given .1)) (c .before .len-i64 .ensures) (c .len-u64 .ensures) in
     fit-is _ (omega (arith, c .before .len-i64 .ensures, i64-short (pos 0), c .len-u64 .ensures, u64-short k)) ∙ ap fit z
 
 returns-2 : tie.Need-returns-2
@@ -79,7 +80,7 @@ returns-2 c =
     let new = nameList (a .bytes .now) (a .starts .now) (a .lens .now) (a .present .now) in
     let r = c .before .before .repeat-count in
     let f = walk-first (a .column .now) (a .bytes .now) new (a .s) (p .1 .1 .0 .0) in
-    let q = repeat-in _ (c .before .before .before .before .stretch2 .given .1) f (p .1 .1 .0 .1) (r .ensures) (r .ok) in
+    let q = repeat-in textE _ (c .before .before .before .before .stretch2 .given .1) f (p .1 .1 .0 .1) (r .ensures) (r .ok) in
     let h = held-length (a .column .now) (a .bytes .now) (a .s .held) (p .0 .within) in
     c .counted .ensures ∙ ap fit (parts-length q (c .before .len-i642 .ensures) (sym h))
 
@@ -87,7 +88,7 @@ returns-3 : tie.Need-returns-3
 returns-3 c =
     let p = c .before .before .before .before .before .before .before .before .before .before .before .pre .1 in
     let r = c .before .before .literal-count in
-    let q = literal-in _ (c .before .before .before .before .stretch3 .given .1) (p .1 .1 .0 .1) (p .1 .1 .1 .0) (r .ensures) (r .ok) in
+    let q = literal-in textE _ (c .before .before .before .before .stretch3 .given .1) (p .1 .1 .0 .1) (p .1 .1 .1 .0) (r .ensures) (r .ok) in
     c .literal-len .ensures ∙ ap fit (parts-length q (c .before .len-i643 .ensures) refl)
 
 pub stretch-len-spec : {M : Type 1} → statement M

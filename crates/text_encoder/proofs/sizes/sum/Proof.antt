@@ -2,7 +2,7 @@
 use Prim.Native.Nat.{_+_}
 use native.Mathlib.Omega.{arith}
 use borrow.Author.Needs.{needs}
-use Rattle.text_encoder.proofs.Fits.{fit-is, fit-beyond}
+use Rattle.encoding.proofs.Fits.{fit-is, fit-beyond}
 use Rattle.text_encoder.proofs.sizes.sum.Statement.{statement}
 use Rattle.text_encoder.proofs.sizes.sum.Tie as tie
 

@@ -7,7 +7,7 @@ use native.Mathlib.Omega.{arith}
 use lib.ListN.{length}
 use Rattle.encoding.specs.Writer.{columnBytes}
 use Rattle.text.specs.Text.{textE}
-use Rattle.text_encoder.specs.Cases.{fit}
+use Rattle.encoding.specs.Cases.{fit}
 use Rattle.text_encoder.proofs.spliced.spliced_len.Statement.{statement}
 use Rattle.text_encoder.proofs.spliced.spliced_len.Tie as tie
 

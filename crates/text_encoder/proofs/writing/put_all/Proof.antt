@@ -6,10 +6,11 @@ use lib.ListN.{length}
 use lib.Seq.{sets}
 use Rattle.encoding.specs.Limit.{limit}
 use Rattle.encoding.proofs.Putting.{put-part, put-done}
+use Rattle.text.specs.Text.{textE}
 use Rattle.text.specs.Given.{nameList}
 use Rattle.text_encoder.specs.Walks.{At, namesFrom}
 use Rattle.text_encoder.proofs.Passing.{walk-over}
-use Rattle.text_encoder.proofs.Runs.{owing, cut-bytes, cut-length, cut-shorter, cut-over}
+use Rattle.encoding.proofs.Written.{owing, cut-bytes, cut-length, cut-shorter, cut-over}
 use Rattle.text_encoder.proofs.writing.put_all.Statement.{statement}
 use Rattle.text_encoder.proofs.writing.put_all.Tie as tie
 
@@ -18,8 +19,9 @@ Inv-loop column bytes starts lens present out₀ at₀ walk₀ out at walk =
     At column bytes starts lens present walk
     × (length (namesFrom column bytes starts lens present walk) ≤ limit)
     × (length out ≡ length out₀)
-    × (at + length (owing (namesFrom column bytes starts lens present walk)) ≤ length out₀)
-    × (sets out₀ 0 (owing (namesFrom column bytes starts lens present walk₀)) ≡ sets out at (owing (namesFrom column bytes starts lens present walk)))
+    × (at + length (owing textE (namesFrom column bytes starts lens present walk)) ≤ length out₀)
+    × (sets out₀ 0 (owing textE (namesFrom column bytes starts lens present walk₀)) ≡ sets out at
+    (owing textE (namesFrom column bytes starts lens present walk)))
 
 abbrev μ-loop : tie.MeasureT-loop
 μ-loop column bytes starts lens present out₀ at₀ walk₀ out at walk = length (namesFrom column bytes starts lens present walk)
@@ -38,10 +40,10 @@ put-stretch-requires c κs =
     let h = c .before .before .before .before .loop .inv in
     let e = c .before .stretch-at .ensures .1 in
     let p = c .before .before .before .before .before .before .before .before .before .before .before .pre in
-    (p .0, (h .0, (h .1, ((c .before .before .if1 .taken, e .whole), ((e .later, e .within), omega (arith, h .3, h .2, cut-length e))))))
+    (p .0, (h .0, (h .1, ((c .before .before .if1 .taken, e .whole), ((e .later, e .within), omega (arith, h .3, h .2, cut-length textE e))))))
 
 loop-less : tie.Need-loop-less Inv-loop μ-loop
-loop-less c = cut-shorter (c .before .before .before .before .before .stretch-at .ensures .1)
+loop-less c = cut-shorter textE (c .before .before .before .before .before .stretch-at .ensures .1)
 
 loop-again : tie.Need-loop-again Inv-loop μ-loop
 loop-again c =
@@ -49,10 +51,10 @@ loop-again c =
     let e = c .before .before .before .before .before .stretch-at .ensures in
     let u = c .before .before .before .put-stretch .ensures in (
       e .0,
-      omega (arith, cut-shorter (e .1), h .1),
+      omega (arith, cut-shorter textE (e .1), h .1),
       c .before .before .before .put-stretch .kept .1 .1 .1 .1 .1 .1 .1 .0 ∙ h .2,
-      omega (arith, u .after, h .3, cut-length (e .1)),
-      h .4 ∙ put-part _ _ (cut-bytes (e .1)) u,
+      omega (arith, u .after, h .3, cut-length textE (e .1)),
+      h .4 ∙ put-part _ _ (cut-bytes textE (e .1)) u,
     )
 
 same-length : tie.Need-same-length Inv-loop μ-loop
@@ -63,7 +65,7 @@ returns c =
     let a = c .before .before .before .before .before .before .before .before .before .args in
     let h = c .before .before .loop .inv in
     let new = nameList (a .bytes .now) (a .starts .now) (a .lens .now) (a .present .now) in
-    sym (h .4 ∙ put-done _ _ _ (cut-over _ (walk-over (a .column .now) (a .bytes .now) new (c .before .before .loop .walk) (h .0) (c .if1 .left))))
+    sym (h .4 ∙ put-done _ _ _ (cut-over textE _ (walk-over (a .column .now) (a .bytes .now) new (c .before .before .loop .walk) (h .0) (c .if1 .left))))
 
 pub put-all-spec : {M : Type 1} → statement M
 put-all-spec =

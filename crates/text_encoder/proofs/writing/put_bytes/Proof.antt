@@ -5,7 +5,7 @@ use native.Mathlib.Omega.{arith}
 use lib.ListN.{length, getD, drop, length-set}
 use lib.Seq.{sets}
 use Rattle.text.specs.Text.{bytesAt}
-use Rattle.text_encoder.proofs.Runs.{bytes-length, store-start, store-next, store-end}
+use Rattle.encoding.proofs.Written.{bytes-length, store-start, store-next, store-end}
 use Rattle.text_encoder.proofs.writing.put_bytes.Statement.{statement}
 use Rattle.text_encoder.proofs.writing.put_bytes.Tie as tie
 

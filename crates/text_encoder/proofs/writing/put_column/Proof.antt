@@ -3,7 +3,8 @@ use mathlib.Core.Path.{sym, _∙_, ap}
 use native.Mathlib.Omega.{arith}
 use lib.ListN.{length}
 use borrow.Author.Needs.{needs}
-use Rattle.text_encoder.proofs.Runs.{column-some, column-none}
+use Rattle.encoding.proofs.Written.{column-some, column-none}
+use Rattle.text.specs.Text.{textE}
 use Rattle.text_encoder.proofs.writing.put_column.Statement.{statement}
 use Rattle.text_encoder.proofs.writing.put_column.Tie as tie
 
@@ -14,7 +15,7 @@ put-all-requires : tie.Need-put-all-requires
 put-all-requires c κs =
     let p = c .before .before .before .before .before .before .before .before .before .pre in
     let e = sym (c .before .before .any-present .ensures) ∙ c .before .if1 .taken in
-    (p .0, (p .1 .0, (p .1 .1 .0, omega (arith, p .1 .1 .1, ap length (column-some _ e)))))
+    (p .0, (p .1 .0, (p .1 .1 .0, omega (arith, p .1 .1 .1, ap length (column-some textE _ e)))))
 
 same-length : tie.Need-same-length
 same-length c = search needs
@@ -22,12 +23,12 @@ same-length c = search needs
 returns : tie.Need-returns
 returns c =
     let e = sym (c .before .before .before .before .before .any-present .ensures) ∙ c .before .before .before .before .if1 .taken in
-    rw (column-some _ e) (c .before .before .put-all .ensures)
+    rw (column-some textE _ e) (c .before .before .put-all .ensures)
 
 returns-2 : tie.Need-returns-2
 returns-2 c =
     let e = sym (c .before .any-present .ensures) ∙ c .if1 .left in
-    rw (column-none _ e)
+    rw (column-none textE _ e)
 
 pub put-column-spec : {M : Type 1} → statement M
 put-column-spec =

@@ -2,9 +2,11 @@
 use mathlib.Core.Path.{sym, ap}
 use borrow.Author.Needs.{needs}
 use Rattle.encoding.proofs.Putting.{put-as}
-use Rattle.text_encoder.specs.Walks.{heldIn, bytesOf}
+use Rattle.encoding.specs.Cuts.{writtenIn}
+use Rattle.text.specs.Text.{textE}
+use Rattle.text_encoder.specs.Walks.{heldIn}
 use Rattle.text_encoder.specs.declared.walk.Held.{Held}
-use Rattle.text_encoder.proofs.Runs.{put-nothing}
+use Rattle.encoding.proofs.Written.{put-nothing}
 use Rattle.text_encoder.proofs.writing.put_held.Statement.{statement}
 use Rattle.text_encoder.proofs.writing.put_held.Tie as tie
 
@@ -32,7 +34,7 @@ put-name-requires-2 c κs =
 returns : tie.Need-returns
 returns c =
     let a = c .before .before .before .before .before .args in
-    put-as (ap (λ (h : Held). bytesOf (heldIn (a .column .now) (a .bytes .now) h)) (sym (c .enum-told .given .1))) (put-nothing (a .out .now) (a .at))
+    put-as (ap (λ (h : Held). writtenIn textE (heldIn (a .column .now) (a .bytes .now) h)) (sym (c .enum-told .given .1))) (put-nothing (a .out .now) (a .at))
 
 same-length : tie.Need-same-length
 same-length c = search needs
@@ -40,7 +42,7 @@ same-length c = search needs
 returns-2 : tie.Need-returns-2
 returns-2 c =
     let a = c .before .before .before .before .before .before .before .before .before .before .args in
-    let e = ap (λ (h : Held). bytesOf (heldIn (a .column .now) (a .bytes .now) h)) (sym (c .before .before .before .before .before .held .given .1)) in
+    let e = ap (λ (h : Held). writtenIn textE (heldIn (a .column .now) (a .bytes .now) h)) (sym (c .before .before .before .before .before .held .given .1)) in
     put-as e (c .before .before .put-name .ensures)
 
 same-length-2 : tie.Need-same-length-2
@@ -49,7 +51,7 @@ same-length-2 c = search needs
 returns-3 : tie.Need-returns-3
 returns-3 c =
     let a = c .before .before .before .before .before .before .before .before .before .before .args in
-    let e = ap (λ (h : Held). bytesOf (heldIn (a .column .now) (a .bytes .now) h)) (sym (c .before .before .before .before .before .held2 .given .1)) in
+    let e = ap (λ (h : Held). writtenIn textE (heldIn (a .column .now) (a .bytes .now) h)) (sym (c .before .before .before .before .before .held2 .given .1)) in
     put-as e (c .before .before .put-name2 .ensures)
 
 pub put-held-spec : {M : Type 1} → statement M

@@ -9,10 +9,10 @@ use Rattle.encoding.specs.Writer.{allBytes}
 use Rattle.encoding.proofs.Putting.{put-part, put-done}
 use Rattle.text.specs.Text.{textE}
 use Rattle.text.specs.Given.{nameList}
-use Rattle.text_encoder.specs.Cuts.{somes}
+use Rattle.encoding.specs.Cuts.{somes}
 use Rattle.text_encoder.specs.Walks.{At, listOf, namesFrom}
 use Rattle.text_encoder.proofs.Passing.{walk-first, walk-there}
-use Rattle.text_encoder.proofs.Runs.{names-bytes, names-length, names-over}
+use Rattle.encoding.proofs.Written.{values-bytes, values-length, values-over}
 use Rattle.text_encoder.proofs.writing.put_literal.Statement.{statement}
 use Rattle.text_encoder.proofs.writing.put_literal.Tie as tie
 
@@ -40,7 +40,8 @@ put-held-requires c κs =
     let h = c .before .before .loop .inv in
     let l = c .before .loop-test .taken in
     let new = nameList (a .bytes .now) (a .starts .now) (a .lens .now) (a .present .now) in
-    let z = names-length l (walk-first (a .column .now) (a .bytes .now) new w (walk-there (a .column .now) (a .bytes .now) new w (h .0) (omega arith))) in
+    let z = values-length textE l (walk-first (a .column .now) (a .bytes .now) new w (walk-there (a .column .now) (a .bytes .now) new w (h .0) (omega arith)))
+    in
     (h .0 .within, omega (arith, s .pre .1 .1 .1))
 
 sub-left : tie.Need-sub-left Inv-loop μ-loop
@@ -64,12 +65,12 @@ loop-again c =
     let l = c .before .before .before .before .before .loop-test .taken in
     let t = c .stepped .ensures in
     let u = c .before .before .before .put-held .ensures in
-    let z = names-length l (t .1) in (
+    let z = values-length textE l (t .1) in (
       t .0,
       omega (arith, ap length (t .1)),
       c .before .before .before .put-held .kept .1 .1 .1 .0 ∙ h .2,
       omega (arith, u .after),
-      h .4 ∙ put-part _ _ (names-bytes l (t .1)) u,
+      h .4 ∙ put-part _ _ (values-bytes textE l (t .1)) u,
     )
 
 same-length : tie.Need-same-length Inv-loop μ-loop
@@ -80,7 +81,7 @@ returns c =
     let a = c .before .before .before .before .before .before .before .before .args in
     let h = c .before .loop .inv in
     let new = nameList (a .bytes .now) (a .starts .now) (a .lens .now) (a .present .now) in
-    let e = names-over (listOf (a .column .now) (a .bytes .now) new (c .before .loop .walk)) (c .loop-test .left) in
+    let e = values-over textE (listOf (a .column .now) (a .bytes .now) new (c .before .loop .walk)) (c .loop-test .left) in
     record { after = omega (arith, ap length e); bytes = sym (h .4 ∙ put-done _ _ _ e) }
 
 pub put-literal-spec : {M : Type 1} → statement M

@@ -2,7 +2,8 @@
 use native.Mathlib.Omega.{arith}
 use borrow.Author.Needs.{needs}
 use Rattle.encoding.proofs.StretchParts.{first-fits, second-fits, parts-put}
-use Rattle.text_encoder.proofs.Runs.{bytes-length, name-parts}
+use Rattle.encoding.proofs.Written.{bytes-length}
+use Rattle.text_encoder.proofs.Passing.{name-parts}
 use Rattle.text_encoder.proofs.writing.put_name.Statement.{statement}
 use Rattle.text_encoder.proofs.writing.put_name.Tie as tie
 

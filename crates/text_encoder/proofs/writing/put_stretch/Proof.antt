@@ -4,9 +4,10 @@ use native.Mathlib.Omega.{arith}
 use borrow.Author.Needs.{needs}
 use Rattle.encoding.specs.Ahead.{endOf}
 use Rattle.encoding.proofs.StretchParts.{first-fits, second-fits, parts-put}
+use Rattle.text.specs.Text.{textE}
 use Rattle.text.specs.Given.{nameList}
 use Rattle.text_encoder.proofs.Passing.{walk-first}
-use Rattle.text_encoder.proofs.Runs.{absent-in, repeat-in, literal-in}
+use Rattle.encoding.proofs.Written.{absent-in, repeat-in, literal-in}
 use Rattle.text_encoder.proofs.writing.put_stretch.Statement.{statement}
 use Rattle.text_encoder.proofs.writing.put_stretch.Tie as tie
 
@@ -15,12 +16,12 @@ enum-known-stretch c = search needs
 
 put-count-requires : tie.Need-put-count-requires
 put-count-requires c κs =
-    let q = absent-in _ (c .before .before .stretch .given .1) in
+    let q = absent-in textE _ (c .before .before .stretch .given .1) in
     first-fits q _ _ (c .before .before .before .before .before .before .before .before .before .before .pre .1 .1 .1 .1 .1)
 
 put-number-requires : tie.Need-put-number-requires
 put-number-requires c κs =
-    let q = absent-in _ (c .before .before .before .before .before .before .stretch .given .1) in
+    let q = absent-in textE _ (c .before .before .before .before .before .before .stretch .given .1) in
     let p = c .before .before .before .before .before .before .before .before .before .before .before .before .before .before .pre .1 .1 .1 .1 in
     let n = c .before .before .before .put-count in
     second-fits q (p .1) (n .ensures) (n .kept .0)
@@ -46,7 +47,7 @@ put-count-requires-2 c κs =
     let r = c .repeat-count in
     let f = walk-first (a .column .now) (a .bytes .now) new (a .s) (p .1 .1 .0 .0) in
     let e = c .before .before .before .stretch2 .given .1 in
-    let q = repeat-in _ e f (p .1 .1 .0 .1) (r .ensures) (r .ok) in
+    let q = repeat-in textE _ e f (p .1 .1 .0 .1) (r .ensures) (r .ok) in
     first-fits q _ _ (p .1 .1 .1 .1)
 
 put-held-requires : tie.Need-put-held-requires
@@ -58,7 +59,7 @@ put-held-requires c κs =
     let r = c .before .before .before .before .repeat-count in
     let f = walk-first (a .column .now) (a .bytes .now) new (a .s) (p .1 .1 .0 .0) in
     let e = c .before .before .before .before .before .before .before .stretch2 .given .1 in
-    let q = repeat-in _ e f (p .1 .1 .0 .1) (r .ensures) (r .ok) in
+    let q = repeat-in textE _ e f (p .1 .1 .0 .1) (r .ensures) (r .ok) in
     (p .0 .within, second-fits q (p .1 .1 .1 .1) (c .before .before .before .put-count2 .ensures) (c .before .before .before .put-count2 .kept .0))
 
 enum-known-stretch-3 : tie.Need-enum-known-stretch-3
@@ -79,7 +80,7 @@ put-count-requires-3 c κs =
     let p = s .pre .1 in
     let r = c .literal-count in
     let e = c .before .before .before .stretch3 .given .1 in
-    let q = literal-in _ e (p .1 .1 .0 .1) (p .1 .1 .1 .0 .0) (r .ensures) (r .ok) in
+    let q = literal-in textE _ e (p .1 .1 .0 .1) (p .1 .1 .1 .0 .0) (r .ensures) (r .ok) in
     first-fits q _ _ (p .1 .1 .1 .1)
 
 put-literal-requires : tie.Need-put-literal-requires
@@ -88,7 +89,7 @@ put-literal-requires c κs =
     let p = s .pre .1 in
     let r = c .before .before .before .before .literal-count in
     let e = c .before .before .before .before .before .before .before .stretch3 .given .1 in
-    let q = literal-in _ e (p .1 .1 .0 .1) (p .1 .1 .1 .0 .0) (r .ensures) (r .ok) in
+    let q = literal-in textE _ e (p .1 .1 .0 .1) (p .1 .1 .1 .0 .0) (r .ensures) (r .ok) in
     let z = ap endOf e in
     let f = second-fits q (p .1 .1 .1 .1) (c .before .before .before .put-count3 .ensures) (c .before .before .before .put-count3 .kept .0) in
     (s .pre .0, (p .0, (omega (arith, p .1 .1 .1 .0 .1), f)))
@@ -98,7 +99,7 @@ same-length c = search needs
 
 returns : tie.Need-returns
 returns c =
-    let q = absent-in _ (c .before .before .before .before .before .before .before .before .before .stretch .given .1) in
+    let q = absent-in textE _ (c .before .before .before .before .before .before .before .before .before .stretch .given .1) in
     parts-put q (c .before .before .before .before .before .before .put-count .ensures) (c .before .before .put-number .ensures)
 
 same-length-2 : tie.Need-same-length-2
@@ -113,7 +114,7 @@ returns-2 c =
     let r = c .before .before .before .before .before .before .before .repeat-count in
     let f = walk-first (a .column .now) (a .bytes .now) new (a .s) (p .1 .1 .0 .0) in
     let e = c .before .before .before .before .before .before .before .before .before .before .stretch2 .given .1 in
-    let q = repeat-in _ e f (p .1 .1 .0 .1) (r .ensures) (r .ok) in
+    let q = repeat-in textE _ e f (p .1 .1 .0 .1) (r .ensures) (r .ok) in
     parts-put q (c .before .before .before .before .before .before .put-count2 .ensures) (c .before .before .put-held .ensures)
 
 same-length-3 : tie.Need-same-length-3
@@ -125,7 +126,7 @@ returns-3 c =
     let p = s .pre .1 in
     let r = c .before .before .before .before .before .before .before .literal-count in
     let e = c .before .before .before .before .before .before .before .before .before .before .stretch3 .given .1 in
-    let q = literal-in _ e (p .1 .1 .0 .1) (p .1 .1 .1 .0 .0) (r .ensures) (r .ok) in
+    let q = literal-in textE _ e (p .1 .1 .0 .1) (p .1 .1 .1 .0 .0) (r .ensures) (r .ok) in
     parts-put q (c .before .before .before .before .before .before .put-count3 .ensures) (c .before .before .put-literal .ensures)
 
 pub put-stretch-spec : {M : Type 1} → statement M

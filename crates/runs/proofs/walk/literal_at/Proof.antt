@@ -1,13 +1,13 @@
--- `rle_form::walk::literal_at` meets its contract: the value can be read or not, and where there is none the next run comes. Assumes nothing.
+-- `runs::walk::literal_at` meets its contract: the value can be read or not, and where there is none the next run comes. Assumes nothing.
 use mathlib.Core.Path.{sym, ap, subst}
 use native.Mathlib.Omega.{arith}
 use borrow.Author.Needs.{needs}
 use Rattle.runs.proofs.Ends.{elementLaws, ended, end-near}
-use Rattle.rle_form.specs.Pieces.{Onto}
-use Rattle.rle_form.specs.declared.walk.Piece.{Piece}
-use Rattle.rle_form.proofs.Walked.{onto-none, onto-literal, onto-cut}
-use Rattle.rle_form.proofs.walk.literal_at.Statement.{statement}
-use Rattle.rle_form.proofs.walk.literal_at.Tie as tie
+use Rattle.runs.specs.Pieces.{Onto}
+use Rattle.runs.specs.declared.walk.Piece.{Piece}
+use Rattle.runs.proofs.Walked.{onto-none, onto-literal, onto-cut}
+use Rattle.runs.proofs.walk.literal_at.Statement.{statement}
+use Rattle.runs.proofs.walk.literal_at.Tie as tie
 
 before-run-requires : tie.Need-before-run-requires
 before-run-requires c κs = search needs
@@ -15,8 +15,11 @@ before-run-requires c κs = search needs
 returns : tie.Need-returns
 returns c =
     let a = c .before .before .before .args in
-    let e = c .before-run .ensures in
-    (subst (Onto _ _ _) (sym e) (onto-none _ (elementLaws (a .values)) (a .s .now) (a .q) (a .total) (a .n) (c .before .if1 .taken)), omega (arith, ap (λ (p : Piece). p .at) e))
+    let e = c .before-run .ensures in (
+      subst (Onto _ _ _) (sym e) (onto-none _ (elementLaws (a .values)) (a .s .now) (a .q) (a .total) (a .n) (c .before .if1 .taken)),
+      omega
+          (arith, ap (λ (p : Piece). p .at) e),
+    )
 
 value-end-requires : tie.Need-value-end-requires
 value-end-requires c κs = search needs
@@ -44,8 +47,11 @@ returns-3 : tie.Need-returns-3
 returns-3 c =
     let a = c .before .before .before .before .before .before .args in
     let e = c .before-run2 .ensures in
-    let r = ended (a .values) (a .s .now) (a .q) (c .before .before .before .value-end .ensures) (c .before .enum-told .given .1) in
-    (subst (Onto _ _ _) (sym e) (onto-cut _ (elementLaws (a .values)) (a .s .now) (a .q) (a .total) (a .n) _ _ (omega arith) r), omega (arith, ap (λ (p : Piece). p .at) e))
+    let r = ended (a .values) (a .s .now) (a .q) (c .before .before .before .value-end .ensures) (c .before .enum-told .given .1) in (
+      subst (Onto _ _ _) (sym e) (onto-cut _ (elementLaws (a .values)) (a .s .now) (a .q) (a .total) (a .n) _ _ (omega arith) r),
+      omega
+          (arith, ap (λ (p : Piece). p .at) e),
+    )
 
 pub literal-at-spec : {M : Type 1} → statement M
 literal-at-spec =

@@ -5,27 +5,37 @@ ghost use Prim.Native.Nat.{_+_, _-_, _≤_, _<_};
 ghost use lib.ListN.{length};
 ghost use Rattle.encoding.specs.Column.{repeated, literals};
 ghost use Rattle.encoding.specs.Limit.{limit};
 ghost use Rattle.runs.specs.Values.{elementOf};
-ghost use Rattle.rle_form.specs.Pieces.{beforeRun, valuesIn, listFrom, restOf, listOf, Onto, Going};
+ghost use Rattle.runs.specs.Pieces.{AbsentIf, beforeRun, valuesIn, listFrom, restOf, listOf, Onto, Going};
+use crate::ValueEnd;
+use crate::Values;
+use crate::value_end;
 use encoding::Head;
-use runs::ValueEnd;
-use runs::Values;
-use runs::value_end;
 
 // A reading: absent, or a value whose bytes stand in the column from one position up to another.
-pub(crate) enum Held {
+pub enum Held {
     Absent,
     Value(usize, usize),
 }
 
 // Where one stands: a reading that is held and how many times it stands here, 0 at the end. Behind it come so many literal values (`left`) from `at` on,
 // and then the run before which there are `had` readings.
-pub(crate) struct Piece {
+pub struct Piece {
     pub held: Held,
     pub times: u64,
     pub at: usize,
     pub had: u64,
     pub left: u64,
+}
+
+// Is a reading absent?
+pub fn is_absent(held: Held) -> bool
+    ensures { λ r. ⌜ AbsentIf held r ⌝ }
+{
+    match held {
+        Held::Absent => true,
+        Held::Value(_, _) => false,
+    }
 }
 
 // No reading is held: what comes is the run at a position.
@@ -102,7 +112,7 @@ fn entered(s: &[u8], values: Values, at: usize, had: u64) -> Piece
 }
 
 // The next piece: what was held is passed, and so are runs without a reading.
-pub(crate) fn advanced(s: &[u8], values: Values, p: Piece) -> Piece
+pub fn advanced(s: &[u8], values: Values, p: Piece) -> Piece
     ensures { λ r. ⌜ Going (elementOf values .E) (now (s .entry)) r ⌝ }
     ensures { λ r. ⌜ listOf (elementOf values .E) (now (s .entry)) r ≡ restOf (elementOf values .E) (now (s .entry)) p ⌝ }
 {
@@ -117,7 +127,7 @@ pub(crate) fn advanced(s: &[u8], values: Values, p: Piece) -> Piece
 }
 
 // The first piece from the run at a position on.
-pub(crate) fn first(s: &[u8], values: Values, at: usize, had: u64) -> Piece
+pub fn first(s: &[u8], values: Values, at: usize, had: u64) -> Piece
     ensures { λ r. ⌜ Going (elementOf values .E) (now (s .entry)) r ⌝ }
     ensures { λ r. ⌜ listOf (elementOf values .E) (now (s .entry)) r ≡ listFrom (elementOf values .E) (now (s .entry)) at had ⌝ }
 {

@@ -1,13 +1,13 @@
--- `rle_form::walk::repeat_at` meets its contract: the value can be read or not. Assumes nothing.
+-- `runs::walk::repeat_at` meets its contract: the value can be read or not. Assumes nothing.
 use mathlib.Core.Path.{sym, ap, subst}
 use native.Mathlib.Omega.{arith}
 use borrow.Author.Needs.{needs}
 use Rattle.runs.proofs.Ends.{elementLaws, ended, end-near}
-use Rattle.rle_form.specs.Pieces.{Onto}
-use Rattle.rle_form.specs.declared.walk.Piece.{Piece}
-use Rattle.rle_form.proofs.Walked.{onto-repeat, onto-unread}
-use Rattle.rle_form.proofs.walk.repeat_at.Statement.{statement}
-use Rattle.rle_form.proofs.walk.repeat_at.Tie as tie
+use Rattle.runs.specs.Pieces.{Onto}
+use Rattle.runs.specs.declared.walk.Piece.{Piece}
+use Rattle.runs.proofs.Walked.{onto-repeat, onto-unread}
+use Rattle.runs.proofs.walk.repeat_at.Statement.{statement}
+use Rattle.runs.proofs.walk.repeat_at.Tie as tie
 
 value-end-requires : tie.Need-value-end-requires
 value-end-requires c κs = search needs

@@ -2,7 +2,7 @@
 use Prim.Native.Nat.{ℕ, _+_, _-_, _≤_, _<_}
 use mathlib.Core.Path.{_≡_, refl, sym, _∙_, ap, subst}
 use mathlib.Core.List.{List, [], _∷_, _++_, map}
-use mathlib.Core.Option.{Option, some}
+use mathlib.Core.Option.{Option}
 use native.Mathlib.Omega.{arith}
 use lib.ListN.{length, replicate}
 use Rattle.leb128.specs.Got.{Got, got, bad}
@@ -13,10 +13,10 @@ use Rattle.encoding.specs.Walk.{Run, Trace, whole, cut}
 use Rattle.encoding.proofs.Columns.{trace-on, run-head, run-end, repeated-got, repeated-bad, literals-none, literals-on, literals-off}
 use Rattle.encoding.proofs.Elements.{ElementLaws}
 use Rattle.encoding.proofs.Lists.{map-append, map-replicate}
-use Rattle.rle_form.specs.Pieces.{readOf, heldIn, beforeRun, valuesIn, listFrom, restOf, listOf, Onto, Going}
-use Rattle.rle_form.specs.declared.walk.Held.{Held}
-use Rattle.rle_form.specs.declared.walk.Held.the-variants as held
-use Rattle.rle_form.specs.declared.walk.Piece.{Piece}
+use Rattle.runs.specs.Pieces.{readOf, heldIn, beforeRun, valuesIn, listFrom, restOf, listOf, Onto, Going}
+use Rattle.runs.specs.declared.walk.Held.{Held}
+use Rattle.runs.specs.declared.walk.Held.the-variants as held
+use Rattle.runs.specs.declared.walk.Piece.{Piece}
 
 abbrev pub piece : Held → ℕ → ℕ → ℕ → ℕ → Piece
 piece h n at had left = record { held = h; times = n; at = at; had = had; left = left }

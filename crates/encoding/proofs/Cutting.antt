@@ -4,25 +4,27 @@ use Prim.Native.Nat.{ℕ, zero, suc, _+_, _≤_, _<_}
 use mathlib.Core.Path.{_≡_, refl, sym, _∙_, ap, subst}
 use mathlib.Core.List.{List, [], _∷_, _++_, map}
 use mathlib.Core.Option.{Option, none, some}
-use mathlib.Core.Bool.{Bool, true}
+use mathlib.Core.Bool.{Bool, true, false}
 use native.Mathlib.Omega.{arith}
 use lib.ListN.{length, take, drop, replicate, length-append, length-map}
 use lib.Seq.{take-at, drop-at}
-use Rattle.encoding.specs.Stretches.{Stretch, stretches}
-use Rattle.encoding.specs.Ahead.{joinAll, Off, Closed, Apart}
+use Rattle.encoding.specs.Stretches.{stretches}
+use Rattle.encoding.specs.Ahead.{alike, joinAll, Off, Closed, Apart}
+use Rattle.encoding.specs.Element.{Element}
 use Rattle.encoding.specs.declared.StretchEnd.the-variants as stretch
+use Rattle.encoding.proofs.Elements.{ElementLaws}
 use Rattle.encoding.proofs.Fronts.{NoAbsent, absent-cut, repeats-cut, joined, some-more}
-use Rattle.encoding.proofs.Looking.{closed-twice, repeats-end, literal-end, apart-more}
+use Rattle.encoding.proofs.Looking.{off-none, off-some, closed-twice, repeats-end, literal-end, apart-more}
 use Rattle.encoding.proofs.Times.{same-behind, same-within}
-use Rattle.text_encoder.specs.Cuts.{somes, firstOf, literalIn, CutOf, RepeatOf}
+use Rattle.encoding.specs.Cuts.{somes, repeatIn, literalIn, CutOf, RepeatOf, Other, SameRun, LoneRun}
 
 -- ---- absent readings
 
 module _ {A : Type 0} (same : A → A → Bool) where
-  pub absent-stretch : (d : A) (m : ℕ) (xs ys : List (Option A)) → 0 < m → xs ≡ replicate m none ++ ys → NoAbsent same ys
-      → CutOf same d xs (stretch.Absent m) ys
-  absent-stretch d zero xs ys l e h = absurd (omega arith)
-  absent-stretch d (suc n) xs ys l e h =
+  pub absent-stretch : (m : ℕ) (xs ys : List (Option A)) → 0 < m → xs ≡ replicate m none ++ ys → NoAbsent same ys
+      → CutOf same xs (stretch.Absent m) ys
+  absent-stretch zero xs ys l e h = absurd (omega arith)
+  absent-stretch (suc n) xs ys l e h =
       let z = same-within (suc n) none xs ys e in
       record {
         later = l;
@@ -53,16 +55,16 @@ module _ {A : Type 0} (same : A → A → Bool) where
       subst (λ (l : List (Option A)). Off same a (stretches same l)) (h .behind ∙ ap (λ (j : ℕ). drop j xs) z) (h .off)
 
   module _ (same-eq : (a b : A) → same a b ≡ true → a ≡ b) (same-self : (a : A) → same a a ≡ true) where
-    pub repeat-stretch : (d a : A) (k : ℕ) (xs ys zs : List (Option A)) → RepeatOf same a xs k ys → 2 ≤ k → xs ≡ some a ∷ zs
-        → CutOf same d xs (stretch.Repeat k) ys
-    repeat-stretch d a k xs ys zs h l e =
+    pub repeat-stretch : (a : A) (k : ℕ) (xs ys zs : List (Option A)) → RepeatOf same a xs k ys → 2 ≤ k → xs ≡ some a ∷ zs
+        → CutOf same xs (stretch.Repeat k) ys
+    repeat-stretch a k xs ys zs h l e =
         record {
           later = h .later;
           within = h .within;
           whole = ap (λ (l : List (Option A)). length (somes (take 1 l))) e;
           behind = h .behind;
           cuts = h .cuts ∙ repeats-end same same-eq same-self k a (stretches same ys) l (h .off)
-              ∙ ap (λ (b : A). Stretch.repeat k b ∷ stretches same ys) (sym (ap (firstOf d) e));
+              ∙ ap (λ (l : List (Option A)). repeatIn k (somes (take 1 l)) ∷ stretches same ys) (sym e);
         }
 
     pub closed-pair : (a : A) (ys : List (Option A)) → Closed (stretches same (some a ∷ some a ∷ ys))
@@ -105,10 +107,10 @@ module _ {A : Type 0} (same : A → A → Bool) where
               (subst (λ (l : List (Option A)). Off same b (stretches same (drop 1 l))) e o);
         }
 
-    pub literal-stretch : (d a : A) (us xs ys : List (Option A)) (k : ℕ) → us ≡ some a ∷ xs → Off same a (stretches same (drop 1 us))
-        → Unlike xs ys k → Closed (stretches same ys) → CutOf same d us (stretch.Literal k) ys
+    pub literal-stretch : (a : A) (us xs ys : List (Option A)) (k : ℕ) → us ≡ some a ∷ xs → Off same a (stretches same (drop 1 us))
+        → Unlike xs ys k → Closed (stretches same ys) → CutOf same us (stretch.Literal k) ys
     unfolding joinAll
-    literal-stretch d a us xs ys k e o h c =
+    literal-stretch a us xs ys k e o h c =
         let l : List A = a ∷ h .values in
         let s : us ≡ map some l ++ ys = e ∙ ap (λ (m : List (Option A)). some a ∷ m) (h .split) in
         let n : length (map some l) ≡ k = length-map l some ∙ sym (h .count) in
@@ -123,3 +125,55 @@ module _ {A : Type 0} (same : A → A → Bool) where
               ∙ literal-end same same-eq same-self a (h .values) (stretches same ys) (h .apart a f) c
               ∙ ap (λ (m : List A). literalIn m ∷ stretches same ys) (sym t);
         }
+
+-- ---- the stretch that a walk finds: readings that are alike, and values that equal no neighbour
+
+module _ {A : Type 0} (E : Element A) (L : ElementLaws E) where
+  pub alike-eq : (x y : Option A) → alike E x y ≡ true → y ≡ x
+  unfolding alike
+  alike-eq none none e = refl
+  alike-eq none (some b) e = let z : false ≡ true = e in cc
+  alike-eq (some a) none e = let z : false ≡ true = e in cc
+  alike-eq (some a) (some b) e = ap some (sym (L .same-eq a b e))
+
+  -- what stretches begin with, behind a reading that is not alike
+  pub other-absent : (ys : List (Option A)) → Other E none ys → NoAbsent (E .same) ys
+  unfolding alike
+  other-absent [] o = tt
+  other-absent (none ∷ ys) o = let z : true ≡ false = o in let y : _≡_ {A = ℕ} 0 1 = cc in absurd (omega arith)
+  other-absent (some b ∷ ys) o = tt
+
+  pub other-off : (a : A) (ys : List (Option A)) → Other E (some a) ys → Off (E .same) a (stretches (E .same) ys)
+  unfolding alike stretches
+  other-off a [] o = tt
+  other-off a (none ∷ ys) o = off-none (E .same) a (stretches (E .same) ys)
+  other-off a (some b ∷ ys) o = off-some (E .same) (L .same-eq) (L .same-self) a b (stretches (E .same) ys) o
+
+  -- ---- the stretch that begins a list
+
+  module _ (xs ys : List (Option A)) (c : ℕ) where
+    pub cut-absent : SameRun E none xs c ys → CutOf (E .same) xs (stretch.Absent c) ys
+    cut-absent u = absent-stretch (E .same) c xs ys (u .later) (u .split) (other-absent ys (u .other))
+
+    pub cut-repeat : (a : A) → SameRun E (some a) xs c ys → 2 ≤ c → CutOf (E .same) xs (stretch.Repeat c) ys
+    cut-repeat a u l =
+        repeat-stretch (E .same) (L .same-eq) (L .same-self) a c xs ys (drop 1 xs)
+        (repeat-of (E .same) a c xs ys (u .later) (u .split) (other-off a ys (u .other))) l
+        (begins-with c (u .later) (u .split))
+      where
+        begins-with : (n : ℕ) → 0 < n → xs ≡ replicate n (some a) ++ ys → xs ≡ some a ∷ drop 1 xs
+        begins-with zero l e = absurd (omega arith)
+        begins-with (suc n) l e = e ∙ ap (λ (l : List (Option A)). some a ∷ l) (sym (ap (drop 1) e))
+
+    pub cut-literal : (a : A) (k : ℕ) (zs : List (Option A)) → SameRun E (some a) xs c ys → c < 2 → LoneRun E ys k zs
+        → CutOf (E .same) xs (stretch.Literal k) zs
+    cut-literal a k zs u l r =
+        let one : c ≡ 1 = omega (arith, u .later) in
+        let e : xs ≡ some a ∷ ys = u .split ∙ ap (λ (n : ℕ). replicate n (some a) ++ ys) one in
+        let v : Unlike (E .same) ys zs k = record { values = r .values; count = r .count; split = r .split; apart = r .apart } in
+        literal-stretch (E .same) (L .same-eq) (L .same-self) a xs ys zs k e
+        (subst (λ (l : List (Option A)). Off (E .same) a (stretches (E .same) (drop 1 l))) (sym e) (other-off a ys (u .other))) v (r .closed)
+
+  -- there is room for the walk behind it
+  pub behind-few : (x : Option A) (xs ys : List (Option A)) (c : ℕ) → SameRun E x xs c ys → (m : ℕ) → length xs ≤ m → suc (length ys) ≤ m
+  behind-few x xs ys c u m l = omega (arith, same-within c x xs ys (u .split), u .later)

@@ -1,8 +1,8 @@
--- `rle_form::ahead::is_absent` meets its contract: case by case. Assumes nothing.
+-- `runs::walk::is_absent` meets its contract: case by case. Assumes nothing.
 use borrow.Author.Needs.{needs}
-use Rattle.rle_form.proofs.Held.{value-held}
-use Rattle.rle_form.proofs.ahead.is_absent.Statement.{statement}
-use Rattle.rle_form.proofs.ahead.is_absent.Tie as tie
+use Rattle.runs.proofs.Held.{value-held}
+use Rattle.runs.proofs.walk.is_absent.Statement.{statement}
+use Rattle.runs.proofs.walk.is_absent.Tie as tie
 
 enum-told : tie.Need-enum-told
 enum-told c = search needs

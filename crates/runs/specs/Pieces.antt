@@ -1,6 +1,6 @@
--- A run-length column walked a piece at a time, without slots: a reading, how many times it stands there at once, and what comes behind it. What the private
--- functions promise one another. No public promise cites it.
-use Prim.Native.Nat.{ℕ}
+-- 01, "Columns", and 02, [1]: a run-length column walked a piece at a time, whatever its values are: a reading, how many times it stands there at once, and
+-- what comes behind it. At a fault the list ends, as the readings do.
+use Prim.Native.Nat.{ℕ, _-_, _≤_}
 use mathlib.Core.Path.{_≡_}
 use mathlib.Core.List.{List, [], _++_, map}
 use mathlib.Core.Option.{Option, none, some}
@@ -10,9 +10,9 @@ use Rattle.leb128.specs.Got.{Got, got, bad}
 use Rattle.encoding.specs.Column.{Reading, value, Spot, spot, literals, traceFrom}
 use Rattle.encoding.specs.Element.{Element}
 use Rattle.encoding.specs.Walk.{Run, onward}
-use Rattle.rle_form.specs.declared.walk.Held.{Held}
-use Rattle.rle_form.specs.declared.walk.Held.the-variants as held
-use Rattle.rle_form.specs.declared.walk.Piece.{Piece}
+use Rattle.runs.specs.declared.walk.Held.{Held}
+use Rattle.runs.specs.declared.walk.Held.the-variants as held
+use Rattle.runs.specs.declared.walk.Piece.{Piece}
 
 -- the reading that is held: a value is what is read where its bytes begin
 abbrev pub readOf : {A : Type 0} → Got A → Option A
@@ -61,3 +61,12 @@ pub record Going {A : Type 0} (E : Element A) (s : List ℕ) (p : Piece) : Type 
 abbrev pub AbsentIf : Held → Bool → Type 0
 AbsentIf h true = h ≡ held.Absent
 AbsentIf h false = h ≡ held.Absent → ⊥
+
+-- how many bytes it has, which stand in order
+abbrev pub sizeIn : Held → ℕ
+sizeIn held.Absent = 0
+sizeIn (held.Value from till) = till - from
+
+abbrev pub Ordered : Held → Type 0
+Ordered held.Absent = Unit {0}
+Ordered (held.Value from till) = from ≤ till

@@ -6,7 +6,7 @@ use mathlib.Core.Bool.{Bool, true, false, cond}
 use native.Mathlib.Omega.{arith}
 use lib.Dec.{ltb}
 use borrow.Author.Tests.{ltb-true, ltb-false, lt-ltb, le-ltb}
-use Rattle.text_encoder.specs.Cases.{fit}
+use Rattle.encoding.specs.Cases.{fit}
 
 pub fit-is : (n : ℕ) → n < 2 ^ 64 → some n ≡ fit n
 unfolding fit
