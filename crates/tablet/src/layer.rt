@@ -108,7 +108,7 @@ fn add_all<'a>(
     let f = raw_column::read_table(older);
     let mut s = begun;
     let mut next = lesser(least(c.table, 0), least(f.table, 0));
-    let mut i = 0;
+    let mut i: usize = 0;
     while i < 128 && next < 0x1_0000_0000 {
         s = add(line, later, older, next as u32, table, data, s);
         next = lesser(least(c.table, next + 1), least(f.table, next + 1));
