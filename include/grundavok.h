@@ -1,5 +1,5 @@
-/* The column encodings of Automerge documents, proved: numbers, specifications, columns, salvage, replay, forms, tables, reasons
- * and edits.
+/* The column encodings of Automerge documents, proved: numbers, specifications, columns, salvage, replay, forms, tables, stored counts,
+ * reasons and edits.
  *
  * Link libcapi.a, which `rt staticlib capi` writes (x86-64 Linux). The functions call nothing but memcpy and memset, allocate nothing,
  * keep nothing and share nothing: any two may run at once on different buffers.
@@ -8,12 +8,13 @@
  *  - a pointer is not null, not even with length 0 (any address will do there), and is aligned for its element;
  *  - the elements are readable and hold values, those behind a pointer without `const` writable too;
  *  - what is lent without `const` overlaps no other slice of the same call, and nobody else touches it until the call is over.
- * A cursor's pointer is one to a single struct, under the same rules; its numbers may be any.
+ * A cursor's pointer is one to a single struct, under the same rules; its numbers may be any. A table is lent by value, and its numbers may be any.
  * Nothing is kept: when a call returns, every buffer is the caller's alone again.
  *
  * ANSWERS are structs by value. `number` is 0 where the call was accepted, and else the refusal's; `place` is the refusal's place and
- * 0 where there is none; every other number of a refusal is 0. Any bytes, lists and ranges may go to any function. A `fault` is the
- * column's and no refusal: the same numbers, told beside what survives of it (see "Salvage").
+ * 0 where there is none; every other number of a refusal is 0, but for a table that was lent, which comes back as it was. Any bytes, lists,
+ * ranges and tables may go to any function. A `fault` is the column's and no refusal: the same numbers, told beside what survives of it
+ * (see "Salvage").
  *
  *   1  the bytes end within a number, after one with bit 7 set,     its first byte;
  *      or fewer are there than a name has                           of a name its length number's
@@ -41,6 +42,7 @@
  *  21  no byte where a number is due                                the length, where its first byte would be
  *  23  an entry of a log: unknown kind, cut, or bad position        the entry's first byte
  *  24  a cursor for a column of another length, or beyond its end   0
+ *  25  a lent table whose rows are not those of the block           0
  *
  * Places inside a column count from the column's first byte. A copy that ends between two numbers gets 21, one that ends within a number, or
  * with too few bytes of a name, 1; but a column whose bytes end where a run would begin is whole.
@@ -278,6 +280,38 @@ typedef struct {
     grundavok_table table; /* 24 */
 } grundavok_opened;
 
+/* A table that remembers counts: counts[i] is how many readings the column of row i has where known[i] is not 0; where it is 0 that is not
+ * known, and counts[i] says nothing. Unused places are 0. 1864 bytes. */
+typedef struct {
+    grundavok_table table; /* 0 */
+    uint64_t counts[64];   /* 1288 */
+    uint8_t known[64];     /* 1800 */
+} grundavok_counted_table;
+
+/* Such a table as after opening, no count known, and where the data behind it begin; a table of no rows where it is refused. 1888 bytes. */
+typedef struct {
+    uint8_t number;                /* 0 */
+    size_t place;                  /* 8 */
+    size_t start;                  /* 16 */
+    grundavok_counted_table table; /* 24 */
+} grundavok_counted_opened;
+
+/* How many readings a column has, and the table with that stored; the table as it was lent where the call is refused. 1888 bytes. */
+typedef struct {
+    uint8_t number;                /* 0 */
+    size_t place;                  /* 8 */
+    uint64_t count;                /* 16 */
+    grundavok_counted_table table; /* 24 */
+} grundavok_counted_column;
+
+/* The new block's length, and its table with the new column's count stored; the table as it was lent where the edit is refused. 1888 bytes. */
+typedef struct {
+    uint8_t number;                /* 0 */
+    size_t place;                  /* 8 */
+    size_t len;                    /* 16 */
+    grundavok_counted_table table; /* 24 */
+} grundavok_counted_spliced;
+
 /* Where a column lies in its block: len bytes from start on. 32 bytes. */
 typedef struct {
     uint8_t number; /* 0 */
@@ -303,14 +337,6 @@ typedef struct {
     size_t at;      /* 16 */
     size_t len;     /* 24 */
 } grundavok_frame;
-
-/* The new block's length and table; a table of no rows where the edit is refused. 1312 bytes. */
-typedef struct {
-    uint8_t number;        /* 0 */
-    size_t place;          /* 8 */
-    size_t len;            /* 16 */
-    grundavok_table table; /* 24 */
-} grundavok_spliced;
 
 /* ---- Cursors: where a reader stands in a column. The caller keeps one beside the column's bytes. ---- */
 
@@ -573,6 +599,40 @@ grundavok_layered grundavok_locate_over(const uint8_t *corrections, size_t corre
  * bytes left as they were from `at` on, the later columns. Refusals: table faults, 16, 10; out is then unchanged. */
 grundavok_frame grundavok_put_frame(const uint8_t *block, size_t block_len, size_t position, size_t size, uint8_t *out, size_t out_len);
 
+/* ---- Tables that remember counts: a redraw asks each column once ---- */
+
+/* Such a table is kept beside its block, lent with it by value, and taken back from the answer, of a refusal too, which gives it back as it was lent:
+ *
+ *     grundavok_counted_table table = grundavok_open_table(block, n).table;
+ *     ..
+ *     grundavok_counted_column c = grundavok_count(block, n, table, position);
+ *     table = c.table;
+ *     if (c.number != 0) return refused(c.number, c.place);
+ *     ..
+ *     grundavok_counted_spliced r = grundavok_splice_boolean(block, n, table, position, ..);
+ *     table = r.table;
+ *     if (r.number == 0) n = r.len; // the block is now what stands at the front of out
+ *
+ * What an accepted call gives is made anew from the bytes: the block's rows, the counts of those rows as lent but for the one that the call stores, and
+ * unused places 0. A table that came so from grundavok_open_table, each call lent it with its own block, holds true counts alone, which is proved.
+ *
+ * LENT COUNTS ARE NOT CHECKED AGAIN. A count that lies comes out as it went in. What is checked is that the table is one of this block, 25: as many rows, each
+ * with the block's specification, start and length; unused places are no rows and are not looked at. Another block can have the same rows: keep each table
+ * with its own. An edit never takes a lent count for the length of its list: it reads its column. Where you do not trust the counts, as of a table that was
+ * kept in a file, open the block anew, or set the 64 bytes of `known` to 0, which says that nothing is known.
+ *
+ * BEFORE THIS the edits were lent no table. A caller of that form writes grundavok_open_table(block, n).table behind the block and its length, r.table.table
+ * for the rows, where it had r.table, and grundavok_counted_spliced for the answer, which was grundavok_spliced. A refused edit had a table of no rows; now it
+ * gives back the one that was lent. */
+
+/* The table of a block; no count is known. Refusals: table faults. */
+grundavok_counted_opened grundavok_open_table(const uint8_t *block, size_t block_len);
+
+/* How many readings the column at a position has: the count that its row carries, as it stands, or else by its bytes. The table has it stored. Served: types
+ * 1 to 5. Refusals, in this order: table faults; 25; 16; 17; and, where no count is stored, the column's first fault (as for its count): such a
+ * column's count stays unknown. A stored count costs the reading of the table and none of the column. */
+grundavok_counted_column grundavok_count(const uint8_t *block, size_t block_len, grundavok_counted_table table, size_t position);
+
 /* ---- Reasons: which row or which run is at fault, and the facts that make the refusal true ---- */
 
 /* Of a table's fault, the refusal of grundavok_read_table. No refusal. */
@@ -588,34 +648,37 @@ grundavok_reason grundavok_block_reason(const uint8_t *block, size_t block_len, 
 /* ---- Edits ---- */
 
 /* The readings from start up to end of the column at a position replaced by the new ones; the calls with _to_end take all readings from start
- * on. The whole new block is written to the front of out. Served: integer Actor and Integer columns, delta DeltaInteger, boolean Boolean.
- * Refusals, in this order: table faults; 16; 17; 18 for end below start; 8 (the lengths of new_values and new_present, or of values and
+ * on. The whole new block is written to the front of out; its table has the count that the new column reads as, 0 where it was written as nothing, and the
+ * others as lent. Served: integer Actor and Integer columns, delta DeltaInteger, boolean Boolean.
+ * Refusals, in this order: table faults; 25; 16; 17; 18 for end below start; 8 (the lengths of new_values and new_present, or of values and
  * present; a byte above 1); the column's first fault (as for its count); 18 for start or end beyond the list; 5 for the result; 9
- * where slots are fewer than the longer of old and new list; 7 (delta alone); 10.
+ * where slots are fewer than the longer of old and new list; 7 (delta alone); 10. Each gives the table back as lent.
  * On success, and on 7 or 10, the slots hold the new list, then absent zeros (booleans: 0) up to the old list's length where that was
  * longer, the rest unchanged. Any other refusal changes no slot. No refusal changes out. */
-grundavok_spliced grundavok_splice_integer(const uint8_t *block, size_t block_len, size_t position, size_t start, size_t end,
-                                           const uint64_t *new_values, size_t new_values_len, const uint8_t *new_present,
-                                           size_t new_present_len, uint64_t *values, size_t values_len, uint8_t *present,
-                                           size_t present_len, uint8_t *out, size_t out_len);
-grundavok_spliced grundavok_splice_integer_to_end(const uint8_t *block, size_t block_len, size_t position, size_t start,
-                                                  const uint64_t *new_values, size_t new_values_len, const uint8_t *new_present,
-                                                  size_t new_present_len, uint64_t *values, size_t values_len, uint8_t *present,
-                                                  size_t present_len, uint8_t *out, size_t out_len);
-grundavok_spliced grundavok_splice_delta(const uint8_t *block, size_t block_len, size_t position, size_t start, size_t end,
-                                         const int64_t *new_values, size_t new_values_len, const uint8_t *new_present,
-                                         size_t new_present_len, int64_t *values, size_t values_len, uint8_t *present,
-                                         size_t present_len, uint8_t *out, size_t out_len);
-grundavok_spliced grundavok_splice_delta_to_end(const uint8_t *block, size_t block_len, size_t position, size_t start,
-                                                const int64_t *new_values, size_t new_values_len, const uint8_t *new_present,
-                                                size_t new_present_len, int64_t *values, size_t values_len, uint8_t *present,
-                                                size_t present_len, uint8_t *out, size_t out_len);
-grundavok_spliced grundavok_splice_boolean(const uint8_t *block, size_t block_len, size_t position, size_t start, size_t end,
-                                           const uint8_t *new_values, size_t new_values_len, uint8_t *values, size_t values_len,
-                                           uint8_t *out, size_t out_len);
-grundavok_spliced grundavok_splice_boolean_to_end(const uint8_t *block, size_t block_len, size_t position, size_t start,
-                                                  const uint8_t *new_values, size_t new_values_len, uint8_t *values, size_t values_len,
-                                                  uint8_t *out, size_t out_len);
+grundavok_counted_spliced grundavok_splice_integer(const uint8_t *block, size_t block_len, grundavok_counted_table table, size_t position,
+                                                   size_t start, size_t end, const uint64_t *new_values, size_t new_values_len,
+                                                   const uint8_t *new_present, size_t new_present_len, uint64_t *values, size_t values_len,
+                                                   uint8_t *present, size_t present_len, uint8_t *out, size_t out_len);
+grundavok_counted_spliced grundavok_splice_integer_to_end(const uint8_t *block, size_t block_len, grundavok_counted_table table,
+                                                          size_t position, size_t start, const uint64_t *new_values, size_t new_values_len,
+                                                          const uint8_t *new_present, size_t new_present_len, uint64_t *values,
+                                                          size_t values_len, uint8_t *present, size_t present_len, uint8_t *out,
+                                                          size_t out_len);
+grundavok_counted_spliced grundavok_splice_delta(const uint8_t *block, size_t block_len, grundavok_counted_table table, size_t position,
+                                                 size_t start, size_t end, const int64_t *new_values, size_t new_values_len,
+                                                 const uint8_t *new_present, size_t new_present_len, int64_t *values, size_t values_len,
+                                                 uint8_t *present, size_t present_len, uint8_t *out, size_t out_len);
+grundavok_counted_spliced grundavok_splice_delta_to_end(const uint8_t *block, size_t block_len, grundavok_counted_table table,
+                                                        size_t position, size_t start, const int64_t *new_values, size_t new_values_len,
+                                                        const uint8_t *new_present, size_t new_present_len, int64_t *values,
+                                                        size_t values_len, uint8_t *present, size_t present_len, uint8_t *out,
+                                                        size_t out_len);
+grundavok_counted_spliced grundavok_splice_boolean(const uint8_t *block, size_t block_len, grundavok_counted_table table, size_t position,
+                                                   size_t start, size_t end, const uint8_t *new_values, size_t new_values_len,
+                                                   uint8_t *values, size_t values_len, uint8_t *out, size_t out_len);
+grundavok_counted_spliced grundavok_splice_boolean_to_end(const uint8_t *block, size_t block_len, grundavok_counted_table table,
+                                                          size_t position, size_t start, const uint8_t *new_values, size_t new_values_len,
+                                                          uint8_t *values, size_t values_len, uint8_t *out, size_t out_len);
 
 /* The same of names, in a String column. Refusals in the same order, with 20 directly after 8 and without 7; of 8 the lengths first (those of
  * new_starts, new_lens and new_present, or of starts, lens and present), then the first new name whose byte is above 1 or whose pair reaches
@@ -623,17 +686,18 @@ grundavok_spliced grundavok_splice_boolean_to_end(const uint8_t *block, size_t b
  * On success the slots hold the new list, its starts in the NEW column, which is the part of out that grundavok_locate gives: so the start of
  * a name that nobody touched can change too. Then absent zeros (0, 0, 0) up to the old list's length where that was longer, the rest
  * unchanged. A new list with no name present writes no column, and its pairs are 0. No refusal changes a slot or out, 10 too. */
-grundavok_spliced grundavok_splice_text(const uint8_t *block, size_t block_len, size_t position, size_t start, size_t end,
-                                        const uint8_t *bytes, size_t bytes_len, const uint64_t *new_starts, size_t new_starts_len,
-                                        const uint64_t *new_lens, size_t new_lens_len, const uint8_t *new_present,
-                                        size_t new_present_len, uint64_t *starts, size_t starts_len, uint64_t *lens, size_t lens_len,
-                                        uint8_t *present, size_t present_len, uint8_t *out, size_t out_len);
-grundavok_spliced grundavok_splice_text_to_end(const uint8_t *block, size_t block_len, size_t position, size_t start,
-                                               const uint8_t *bytes, size_t bytes_len, const uint64_t *new_starts,
-                                               size_t new_starts_len, const uint64_t *new_lens, size_t new_lens_len,
-                                               const uint8_t *new_present, size_t new_present_len, uint64_t *starts,
-                                               size_t starts_len, uint64_t *lens, size_t lens_len, uint8_t *present,
-                                               size_t present_len, uint8_t *out, size_t out_len);
+grundavok_counted_spliced grundavok_splice_text(const uint8_t *block, size_t block_len, grundavok_counted_table table, size_t position,
+                                                size_t start, size_t end, const uint8_t *bytes, size_t bytes_len,
+                                                const uint64_t *new_starts, size_t new_starts_len, const uint64_t *new_lens,
+                                                size_t new_lens_len, const uint8_t *new_present, size_t new_present_len, uint64_t *starts,
+                                                size_t starts_len, uint64_t *lens, size_t lens_len, uint8_t *present, size_t present_len,
+                                                uint8_t *out, size_t out_len);
+grundavok_counted_spliced grundavok_splice_text_to_end(const uint8_t *block, size_t block_len, grundavok_counted_table table,
+                                                       size_t position, size_t start, const uint8_t *bytes, size_t bytes_len,
+                                                       const uint64_t *new_starts, size_t new_starts_len, const uint64_t *new_lens,
+                                                       size_t new_lens_len, const uint8_t *new_present, size_t new_present_len,
+                                                       uint64_t *starts, size_t starts_len, uint64_t *lens, size_t lens_len,
+                                                       uint8_t *present, size_t present_len, uint8_t *out, size_t out_len);
 
 /* The first `old` slots of `held` are a list; its elements from start up to end are replaced in place. count is the new list's length; the
  * slots behind it are 0 up to `old`, the rest unchanged. Refusals: 18 for end below start, or end beyond `old`; then 9 where slots are

@@ -9,6 +9,7 @@ mod best;
 mod ours;
 
 use best::{Best, Measured};
+use grundavok::raw::CountedTable;
 use oracle::random::Random;
 use oracle::{boolean, delta, numbers, rle, table};
 use std::hint::black_box;
@@ -328,6 +329,39 @@ fn tables(rows: &mut Rows) {
     }
 }
 
+/// A redraw: how many readings each of 64 columns has, integer, delta and boolean ones, of n readings each. Afresh: each time from the table as opened.
+/// Kept: lent the table that the redraw before gave. The Rust remembers nothing: it reads the table and counts what its decoders give.
+fn redraws(rows: &mut Rows, n: usize) {
+    let signed = stroke("smooth", n);
+    let unsigned: Vec<Option<u64>> = signed.iter().map(|x| x.map(|v| (v + 1_000_000) as u64)).collect();
+    let flags: Vec<bool> = signed.iter().map(|x| x.is_some_and(|v| v / 4 % 2 == 0)).collect();
+    let encoded = [rle::encode(&unsigned), delta::encode(&signed), boolean::encode(&flags)];
+    // ids up to 15, which the Rust's key orders too
+    let typ = |i: u32| [0, 1, 2, 2][i as usize % 4];
+    let column = |i: u32| ((i / 4) << 4 | (2 + typ(i)), encoded[typ(i) as usize].clone());
+    let columns: Vec<(u32, Vec<u8>)> = (0..64).map(column).collect();
+    let bytes = block(&columns);
+    let rust = || -> usize {
+        let (at, parsed) = table::parse(black_box(&bytes)).unwrap();
+        let counted = |&(spec, start, len): &(u32, usize, usize)| {
+            let column = &bytes[at + start..at + start + len];
+            match spec & 7 {
+                2 => rle::iter(column).count(),
+                3 => delta::iter(column).count(),
+                _ => boolean::iter(column).count(),
+            }
+        };
+        parsed.iter().map(counted).sum()
+    };
+    let redraw = |table: &mut CountedTable| -> u64 { (0..64).map(|i| ours::count(black_box(&bytes), table, i)).sum() };
+    let mut kept = ours::open_table(&bytes);
+    assert_eq!((redraw(&mut kept), redraw(&mut kept)), (64 * n as u64, 64 * n as u64));
+    assert_eq!(rust(), 64 * n);
+    let afresh = || redraw(&mut ours::open_table(black_box(&bytes)));
+    rows.row("redraw of 64 columns, afresh", n, 64, afresh, rust);
+    rows.row("redraw of 64 columns, table kept", n, 64, || redraw(&mut kept), rust);
+}
+
 /// The Rust's whole edit: the table read, the first column's range replaced by `splice`, and the new block written.
 fn edited(bytes: &[u8], splice: impl Fn(&[u8]) -> Vec<u8>) -> Vec<u8> {
     let (at, parsed) = table::parse(bytes).unwrap();
@@ -337,7 +371,7 @@ fn edited(bytes: &[u8], splice: impl Fn(&[u8]) -> Vec<u8>) -> Vec<u8> {
     block(&parts)
 }
 
-/// Edits of the first of three columns, and what merely copying the block takes.
+/// Edits of the first of three columns, lent the block's table, and what merely copying the block takes.
 fn edits(rows: &mut Rows, n: usize) {
     let among = |own: Vec<u8>, spec: u32| block(&[(spec, own), (0x27, vec![1; 1_000]), (0x37, vec![2; 1_000])]);
     let list = stroke("smooth", n);
@@ -352,18 +386,31 @@ fn edits(rows: &mut Rows, n: usize) {
             let fresh = $fresh;
             let (new, f) = slots(&fresh);
             let bytes = among($kind::encode(&$list), $spec);
+            let table = ours::open_table(&bytes);
             for (place, start) in $places {
                 let rust = || edited(black_box(&bytes), |c| $kind::splice(c, start, start + 4, &fresh).unwrap());
                 let want = rust();
                 let (mut v, mut p, mut out) = (vec![Default::default(); n + 4], vec![0u8; n + 4], vec![0u8; want.len() + 8]);
-                let len = $splice(&bytes, start, start + 4, &new, &f, &mut v, &mut p, &mut out);
+                let len = $splice(&bytes, &table, start, start + 4, &new, &f, &mut v, &mut p, &mut out);
                 assert_eq!(&out[..len], &want[..]);
                 let name = format!("edit of {} column, {place}", $what);
                 rows.row(
                     &name,
                     n,
                     n,
-                    || $splice(black_box(&bytes), start, start + 4, &new, &f, &mut v, &mut p, &mut out),
+                    || {
+                        $splice(
+                            black_box(&bytes),
+                            &table,
+                            start,
+                            start + 4,
+                            &new,
+                            &f,
+                            &mut v,
+                            &mut p,
+                            &mut out,
+                        )
+                    },
                     rust,
                 );
             }
@@ -384,7 +431,7 @@ fn edits(rows: &mut Rows, n: usize) {
     optional!(rle, 0x12, "an integer", unsigned, given, ours::splice_integer, [("middle", n / 2)]);
     let flags: Vec<bool> = list.iter().map(|x| x.is_some_and(|v| v / 4 % 2 == 0)).collect();
     let bytes = among(boolean::encode(&flags), 0x14);
-    let start = n / 2;
+    let (table, start) = (ours::open_table(&bytes), n / 2);
     let rust = || {
         edited(black_box(&bytes), |c| {
             boolean::splice(c, start, start + 4, &[true, false, true, true]).unwrap()
@@ -392,7 +439,7 @@ fn edits(rows: &mut Rows, n: usize) {
     };
     let want = rust();
     let (mut v, mut out) = (vec![0u8; n + 4], vec![0u8; want.len() + 8]);
-    let ours = |v: &mut [u8], out: &mut [u8]| ours::splice_boolean(black_box(&bytes), start, start + 4, &[1, 0, 1, 1], v, out);
+    let ours = |v: &mut [u8], out: &mut [u8]| ours::splice_boolean(black_box(&bytes), &table, start, start + 4, &[1, 0, 1, 1], v, out);
     let len = ours(&mut v, &mut out);
     assert_eq!(&out[..len], &want[..]);
     rows.row("edit of a boolean column, middle", n, n, || ours(&mut v, &mut out), rust);
@@ -463,6 +510,7 @@ fn main() {
     };
     readers(&mut rows);
     tables(&mut rows);
+    redraws(&mut rows, 10_000);
     for shape in SHAPES {
         for n in SIZES {
             columns(&mut rows, shape, n);

@@ -1,6 +1,6 @@
 //! The proved library by its C boundary, as `bindings/rust` declares it, with buffers lent by the caller.
 
-use grundavok::raw::{Number, Opened, ABSENT, END, PRESENT};
+use grundavok::raw::{CountedTable, Number, Opened, ABSENT, END, PRESENT};
 use grundavok::raw_call;
 
 pub fn leb128_u64(s: &[u8], at: usize) -> Number<u64> {
@@ -47,8 +47,18 @@ macro_rules! optional {
         }
 
         #[allow(clippy::too_many_arguments)]
-        pub fn $splice(s: &[u8], start: usize, end: usize, new: &[$t], f: &[u8], v: &mut [$t], p: &mut [u8], out: &mut [u8]) -> usize {
-            let a = raw_call!($c_splice, [s], (0, start, end), [new, f], [v, p, out]);
+        pub fn $splice(
+            s: &[u8],
+            table: &CountedTable,
+            start: usize,
+            end: usize,
+            new: &[$t],
+            f: &[u8],
+            v: &mut [$t],
+            p: &mut [u8],
+            out: &mut [u8],
+        ) -> usize {
+            let a = raw_call!($c_splice, [s], (*table, 0, start, end), [new, f], [v, p, out]);
             assert_eq!(a.number, 0);
             a.len
         }
@@ -86,14 +96,28 @@ pub fn boolean_encode(v: &[u8], out: &mut [u8]) -> usize {
     a.count as usize
 }
 
-pub fn splice_boolean(s: &[u8], start: usize, end: usize, new: &[u8], v: &mut [u8], out: &mut [u8]) -> usize {
-    let a = raw_call!(grundavok_splice_boolean, [s], (0, start, end), [new], [v, out]);
+pub fn splice_boolean(s: &[u8], table: &CountedTable, start: usize, end: usize, new: &[u8], v: &mut [u8], out: &mut [u8]) -> usize {
+    let a = raw_call!(grundavok_splice_boolean, [s], (*table, 0, start, end), [new], [v, out]);
     assert_eq!(a.number, 0);
     a.len
 }
 
 pub fn read_table(s: &[u8]) -> Opened {
     raw_call!(grundavok_read_table, [s], (), [], [])
+}
+
+pub fn open_table(s: &[u8]) -> CountedTable {
+    let a = raw_call!(grundavok_open_table, [s], (), [], []);
+    assert_eq!(a.number, 0);
+    a.table
+}
+
+/// How many readings a column has, and the table that knows it in the place of the lent one.
+pub fn count(s: &[u8], table: &mut CountedTable, position: usize) -> u64 {
+    let a = raw_call!(grundavok_count, [s], (*table, position), [], []);
+    assert_eq!(a.number, 0);
+    *table = a.table;
+    a.count
 }
 
 pub fn replay(s: &[u8], log: &[u8], v: &mut [i64], p: &mut [u8], out: &mut [u8]) -> usize {

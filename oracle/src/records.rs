@@ -3,6 +3,7 @@
 mod boolean;
 mod columns;
 mod corrections;
+mod counts;
 mod delta;
 mod edited;
 mod edits;
@@ -40,7 +41,7 @@ pub struct Family {
     write: fn(&mut String, &Options, &mut Random),
 }
 
-pub const FAMILIES: [Family; 21] = [
+pub const FAMILIES: [Family; 22] = [
     Family {
         name: "numbers-short",
         about: "the four readers on all inputs of 0 to 2 bytes",
@@ -125,6 +126,11 @@ pub const FAMILIES: [Family; 21] = [
         name: "text-edits",
         about: "edits of String columns, sound and refused ones",
         write: text_edits::all,
+    },
+    Family {
+        name: "counts",
+        about: "counts and edits by turns, each lent the table that the one before gave",
+        write: counts::all,
     },
     Family {
         name: "salvage",

@@ -143,13 +143,25 @@ void frame_is(int line, const char *call, grundavok_frame r, uint8_t number, siz
     told(line, call, r.number == number && r.place == place && r.at == at && r.len == len);
 }
 
-/* A table has no padding, so its bytes decide. */
+/* A table, with counts or without, has no padding, so its bytes decide. */
 void opened_is(int line, const char *call, grundavok_opened r, uint8_t number, size_t place, size_t start, const grundavok_table *table) {
     calls++;
     told(line, call, r.number == number && r.place == place && r.start == start && memcmp(&r.table, table, sizeof r.table) == 0);
 }
 
-void spliced_is(int line, const char *call, grundavok_spliced r, uint8_t number, size_t place, size_t len, const grundavok_table *table) {
+void counted_opened_is(int line, const char *call, grundavok_counted_opened r, uint8_t number, size_t place, size_t start,
+                       const grundavok_counted_table *table) {
+    calls++;
+    told(line, call, r.number == number && r.place == place && r.start == start && memcmp(&r.table, table, sizeof r.table) == 0);
+}
+
+void counted_column_is(int line, const char *call, grundavok_counted_column r, uint8_t number, size_t place, uint64_t count,
+                       const grundavok_counted_table *table) {
+    calls++;
+    told(line, call, r.number == number && r.place == place && r.count == count && memcmp(&r.table, table, sizeof r.table) == 0);
+}
+
+void spliced_is(int line, const char *call, grundavok_counted_spliced r, uint8_t number, size_t place, size_t len, const grundavok_counted_table *table) {
     calls++;
     told(line, call, r.number == number && r.place == place && r.len == len && memcmp(&r.table, table, sizeof r.table) == 0);
 }
@@ -175,7 +187,11 @@ _Static_assert(sizeof(grundavok_table) == 1288 && offsetof(grundavok_table, rows
 _Static_assert(sizeof(grundavok_opened) == 1312 && offsetof(grundavok_opened, table) == 24, "opened");
 _Static_assert(sizeof(grundavok_part) == 32 && offsetof(grundavok_part, len) == 24, "part");
 _Static_assert(sizeof(grundavok_frame) == 32 && offsetof(grundavok_frame, len) == 24, "frame");
-_Static_assert(sizeof(grundavok_spliced) == 1312 && offsetof(grundavok_spliced, table) == 24, "spliced");
+_Static_assert(sizeof(grundavok_counted_table) == 1864 && offsetof(grundavok_counted_table, counts) == 1288, "counted_table");
+_Static_assert(offsetof(grundavok_counted_table, known) == 1800, "counted_table");
+_Static_assert(sizeof(grundavok_counted_opened) == 1888 && offsetof(grundavok_counted_opened, table) == 24, "counted_opened");
+_Static_assert(sizeof(grundavok_counted_column) == 1888 && offsetof(grundavok_counted_column, table) == 24, "counted_column");
+_Static_assert(sizeof(grundavok_counted_spliced) == 1888 && offsetof(grundavok_counted_spliced, table) == 24, "counted_spliced");
 
 int main(void) {
     numbers();
@@ -189,6 +205,7 @@ int main(void) {
     forms();
     reasons();
     tables();
+    counted_tables();
     edits();
     printf("capi: %d calls compared, %d differences\n", calls, differences);
     return differences != 0;

@@ -37,7 +37,11 @@ void part_is(int line, const char *call, grundavok_part r, uint8_t number, size_
 void layered_is(int line, const char *call, grundavok_layered r, uint8_t number, uint8_t block, size_t place, size_t start, size_t len);
 void frame_is(int line, const char *call, grundavok_frame r, uint8_t number, size_t place, size_t at, size_t len);
 void opened_is(int line, const char *call, grundavok_opened r, uint8_t number, size_t place, size_t start, const grundavok_table *table);
-void spliced_is(int line, const char *call, grundavok_spliced r, uint8_t number, size_t place, size_t len, const grundavok_table *table);
+void counted_opened_is(int line, const char *call, grundavok_counted_opened r, uint8_t number, size_t place, size_t start,
+                       const grundavok_counted_table *table);
+void counted_column_is(int line, const char *call, grundavok_counted_column r, uint8_t number, size_t place, uint64_t count,
+                       const grundavok_counted_table *table);
+void spliced_is(int line, const char *call, grundavok_counted_spliced r, uint8_t number, size_t place, size_t len, const grundavok_counted_table *table);
 void left_is(int line, const char *what, const void *is, const void *wanted, size_t size);
 
 #define NUMBER(call, ...) number_is(__LINE__, #call, call, __VA_ARGS__)
@@ -66,6 +70,8 @@ void left_is(int line, const char *what, const void *is, const void *wanted, siz
 #define LAYERED(call, ...) layered_is(__LINE__, #call, call, __VA_ARGS__)
 #define FRAME(call, ...) frame_is(__LINE__, #call, call, __VA_ARGS__)
 #define OPENED(call, ...) opened_is(__LINE__, #call, call, __VA_ARGS__)
+#define COUNTED_OPENED(call, ...) counted_opened_is(__LINE__, #call, call, __VA_ARGS__)
+#define COUNTED_COLUMN(call, ...) counted_column_is(__LINE__, #call, call, __VA_ARGS__)
 #define SPLICED(call, ...) spliced_is(__LINE__, #call, call, __VA_ARGS__)
 
 /* A whole buffer after a call; a list of another size does not compile. */
@@ -88,6 +94,7 @@ void logs(void);
 void forms(void);
 void reasons(void);
 void tables(void);
+void counted_tables(void);
 void edits(void);
 
 #endif

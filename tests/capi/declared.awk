@@ -1,5 +1,5 @@
 # The declarations of C that a source stands for: a line for each struct and for each function, as the header has them but for its comments
-# and line breaks. Input: crates/capi/src/*.rt and what it hands out of cursors, tables and edits, or what Rust declares of the boundary,
+# and line breaks. Input: crates/capi/src/*.rt and what it hands out of cursors, tables and stored counts, or what Rust declares of the boundary,
 # bindings/rust/src/raw.rs.
 
 function c_type(t) {

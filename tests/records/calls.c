@@ -1,6 +1,8 @@
 /* What the boundary's structs answer of a record, and the table of calls. */
 #include "record.h"
 
+int memcmp(const void *a, const void *b, size_t size);
+
 #ifdef SPOILT
 #include "spoilt.h"
 #endif
@@ -11,9 +13,10 @@
 #define U64S(i) (uint64_t *)held_at(i), length_at(i)
 #define I64S(i) (int64_t *)held_at(i), length_at(i)
 
-/* An edit of the block 0, at the position 1, from the start 2 up to the end 3. What comes to all edits, as a lent table, comes here. */
-#define EDIT(call, ...) \
-    (is_word(3) ? call##_to_end(BYTES(0), N(1), N(2), __VA_ARGS__) : call(BYTES(0), N(1), N(2), N(3), __VA_ARGS__))
+/* An edit of the block 0, lent a table; from the input i on stand the position, the start and the end. */
+#define EDIT(call, table, i, ...) \
+    (is_word(i + 2) ? call##_to_end(BYTES(0), table, N(i), N(i + 1), __VA_ARGS__) \
+                    : call(BYTES(0), table, N(i), N(i + 1), N(i + 2), __VA_ARGS__))
 
 /* ---- Numbers and specifications ---- */
 
@@ -223,17 +226,91 @@ static void table(const grundavok_table *t) {
     places(t->lens, rows);
 }
 
+static bool is_zero(const void *from, size_t size) {
+    for (size_t i = 0; i < size; i++)
+        if (((const uint8_t *)from)[i] != 0) return false;
+    return true;
+}
+
+/* Every record of a table is one of opening too, after which no count is known. */
+static void opens_alike(const grundavok_opened *r) {
+    grundavok_counted_opened o = grundavok_open_table(BYTES(0));
+    bool is_same = o.number == r->number && o.place == r->place && o.start == r->start && memcmp(&o.table.table, &r->table, sizeof r->table) == 0;
+    if (!is_same || !is_zero(o.table.counts, sizeof o.table.counts) || !is_zero(o.table.known, sizeof o.table.known)) amiss("it does not open alike");
+}
+
 static void opened_why(grundavok_opened r) {
     refused(r.number, r.place);
     number(r.start);
     table(&r.table);
     agrees(grundavok_table_reason(BYTES(0)), r.number, r.place);
+    opens_alike(&r);
 }
 
-static void spliced(grundavok_spliced r) {
+/* ---- Tables with counts ---- */
+
+static grundavok_counted_table opened_table(void) {
+    return grundavok_open_table(BYTES(0)).table;
+}
+
+/* The table of the input 1: its rows and, for each place, its specification, start, length, count, and whether that is known. */
+static grundavok_counted_table lent_table(void) {
+    grundavok_counted_table t = {0};
+    const uint64_t *all = held_at(1);
+    if (is_word(1)) return opened_table();
+    t.table.rows = all[0];
+    for (size_t i = 0; 1 + 5 * i < length_at(1); i++) {
+        const uint64_t *place = all + 1 + 5 * i;
+        t.table.specs[i] = (uint32_t)place[0];
+        t.table.starts[i] = place[1];
+        t.table.lens[i] = place[2];
+        t.counts[i] = place[3];
+        t.known[i] = (uint8_t)place[4];
+    }
+    return t;
+}
+
+/* The same numbers, up to the last place that is a row or is not 0. */
+static void counted_table(const grundavok_counted_table *t) {
+    uint64_t all[TABLE] = {t->table.rows};
+    size_t places = t->table.rows < 64 ? t->table.rows : 64;
+    for (size_t i = 0; i < 64; i++) {
+        uint64_t *place = all + 1 + 5 * i;
+        place[0] = t->table.specs[i];
+        place[1] = t->table.starts[i];
+        place[2] = t->table.lens[i];
+        place[3] = t->counts[i];
+        place[4] = t->known[i];
+        if (!is_zero(place, 5 * sizeof *place) && places < i + 1) places = i + 1;
+    }
+    numbers(all, 1 + 5 * places);
+}
+
+static void counted_column(grundavok_counted_column r) {
+    refused(r.number, r.place);
+    number(r.count);
+    counted_table(&r.table);
+}
+
+static void lent_spliced(grundavok_counted_spliced r) {
     refused(r.number, r.place);
     number(r.len);
-    table(&r.table);
+    counted_table(&r.table);
+}
+
+/* A record of an edit without a table: it was lent the one that opening gives. A refusal gives that back, and the record has no rows; else nothing is known
+ * but what the new column counts as. */
+static void spliced(grundavok_counted_spliced r, const uint8_t *out, size_t out_len) {
+    static const grundavok_table none;
+    grundavok_counted_table wanted = opened_table();
+    if (r.number == 0) {
+        size_t len = r.len < out_len ? r.len : out_len;
+        wanted = grundavok_count(out, len, grundavok_open_table(out, len).table, N(1)).table;
+    }
+    if (memcmp(&r.table, &wanted, sizeof wanted) != 0) amiss("the table after it is another");
+    refused(r.number, r.place);
+    number(r.len);
+    table(r.number == 0 ? &r.table.table : &none);
 }
 
 /* Where a part lies in a block, and its bytes. */

@@ -63,7 +63,7 @@ static bool is_lent(char kind) {
 }
 
 static bool is_row(char kind) {
-    return strchr("subSUB578", kind) != 0;
+    return strchr("subSUB578r", kind) != 0;
 }
 
 /* ---- Inputs ---- */
@@ -96,13 +96,26 @@ static void lay_out(struct input *in) {
     }
 }
 
-/* A state is a row of so many numbers; of a fresh one the call fills the buffer. */
+/* How many numbers a field stands for at most. */
+static size_t most_of(char kind) {
+    return is_pairs(kind) ? call->bytes : kind == 'r' ? TABLE : call->numbers;
+}
+
+/* Five numbers a place, of which the first is a u32 and the last a byte. */
+static bool is_table(void) {
+    for (size_t i = 1; i < row.len; i += 5)
+        if (row.values[i] > UINT32_MAX || i + 4 >= row.len || row.values[i + 4] > 0xff) return false;
+    return row.len != 0;
+}
+
+/* A state is a row of so many numbers; of a fresh one, or a fresh table, the call fills the buffer. */
 static void take_row(struct input *in) {
     size_t wanted = in->kind >= '5' && in->kind <= '8' ? (size_t)(in->kind - '0') : 0;
-    in->word = wanted != 0 && is_text(in->field, "new");
+    in->word = (wanted != 0 || in->kind == 'r') && is_text(in->field, "new");
     row.len = wanted;
-    if (!in->word && !row_of(in->field, is_pairs(in->kind), is_pairs(in->kind) ? call->bytes : call->numbers, &row)) broken = true;
+    if (!in->word && !row_of(in->field, is_pairs(in->kind), most_of(in->kind), &row)) broken = true;
     if (wanted != 0 && row.len != wanted) broken = true;
+    if (in->kind == 'r' && !in->word && !is_table()) broken = true;
     in->size = is_pairs(in->kind) || in->kind == 'b' || in->kind == 'B' ? 1 : 8;
     in->number = row.len;
     lay_out(in);

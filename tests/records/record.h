@@ -8,6 +8,9 @@
 /* How many numbers a list has at most, and how many bytes a field. */
 #define MOST 20000
 
+/* How many numbers a table with counts is: its rows, and five for each of its 64 places. */
+#define TABLE 321
+
 /* A part of a line; nothing closes it. */
 struct text {
     const char *at;
@@ -32,7 +35,7 @@ struct text until(struct text t, size_t from, char end);
  *   c  one of 8 bits              b B  a list of bytes
  *   t  a type, 0 to 7             5 7 8  a state of so many numbers, lent, or `new`
  *   f  0 or 1                     e  a number, or `end`
- *   k  so many steps                                                              */
+ *   k  so many steps              r  a table with counts, by value, or `new`      */
 struct call {
     const char *name;
     size_t bytes, numbers;

@@ -39,6 +39,24 @@ static grundavok_opened spoilt_read_table(const uint8_t *block, size_t block_len
     return r;
 }
 
+/* A count that is known after opening; the own count of an edit that is wrong, another that is known, and a refusal that changes the table. */
+static grundavok_counted_opened spoilt_open_table(const uint8_t *block, size_t block_len) {
+    grundavok_counted_opened r = grundavok_open_table(block, block_len);
+    if (block_len == 3) r.table.known[0] = 1;
+    return r;
+}
+
+static grundavok_counted_spliced spoilt_splice_boolean(const uint8_t *block, size_t block_len, grundavok_counted_table table, size_t position,
+                                                       size_t start, size_t end, const uint8_t *new_values, size_t new_values_len,
+                                                       uint8_t *values, size_t values_len, uint8_t *out, size_t out_len) {
+    grundavok_counted_spliced r =
+        grundavok_splice_boolean(block, block_len, table, position, start, end, new_values, new_values_len, values, values_len, out, out_len);
+    if (r.number != 0) r.table.counts[63] = 1;
+    else if (r.table.table.rows == 1) r.table.counts[0]++;
+    else r.table.known[1] = 1;
+    return r;
+}
+
 /* A reason that is another than its refusal (delta columns), or has a number beside those that apply. */
 static grundavok_reason spoilt_column_reason(uint8_t typ, const uint8_t *s, size_t s_len) {
     grundavok_reason r = grundavok_column_reason(typ, s, s_len);
@@ -62,5 +80,7 @@ static grundavok_reason spoilt_table_reason(const uint8_t *block, size_t block_l
 #define grundavok_text_count spoilt_text_count
 #define grundavok_rle_next spoilt_rle_next
 #define grundavok_read_table spoilt_read_table
+#define grundavok_open_table spoilt_open_table
+#define grundavok_splice_boolean spoilt_splice_boolean
 #define grundavok_column_reason spoilt_column_reason
 #define grundavok_table_reason spoilt_table_reason

@@ -6,6 +6,8 @@
 //! A few bytes can stand for 4,294,967,295 readings. A call that gives a list therefore takes the most readings that the caller will hold, and is
 //! refused with 9 where there are more; `readings` of [`rle`], [`delta`] and [`boolean`] gives them one by one and holds none.
 //!
+//! [`block::Block`] keeps a block's bytes with a table that remembers how many readings each column has, and edits it.
+//!
 //! A column that was cut is refused by the calls that read all of it; `salvage` of each kind keeps what stands before the fault ([`salvage`]).
 //!
 //! [`corrections`] finds a column in two blocks, later corrections over a first scan.
@@ -18,6 +20,7 @@
 //!
 //! Names ([`text`]) are parts of the bytes that they were found in, since one that repeats stands there once.
 
+pub mod block;
 pub mod boolean;
 pub mod column_specification;
 pub mod corrections;
@@ -33,7 +36,6 @@ mod readings;
 pub mod reason;
 pub mod rle;
 pub mod salvage;
-pub mod splice;
 pub mod text;
 
 use std::fmt;

@@ -144,6 +144,7 @@ pub struct Specification {
 }
 
 #[repr(C)]
+#[derive(Clone, Copy, Debug, PartialEq, Eq)]
 pub struct Table {
     pub specs: [u32; 64],
     pub starts: [u64; 64],
@@ -157,6 +158,40 @@ pub struct Opened {
     pub place: usize,
     pub start: usize,
     pub table: Table,
+}
+
+/// A table that remembers counts: `counts` where `known` is not 0. Any numbers may be lent; what is lent is not checked again.
+#[repr(C)]
+#[derive(Clone, Copy, Debug, PartialEq, Eq)]
+pub struct CountedTable {
+    pub table: Table,
+    pub counts: [u64; 64],
+    pub known: [u8; 64],
+}
+
+#[repr(C)]
+pub struct CountedOpened {
+    pub number: u8,
+    pub place: usize,
+    pub start: usize,
+    pub table: CountedTable,
+}
+
+/// In a refusal the table is as it was lent; so it is of an edit.
+#[repr(C)]
+pub struct CountedColumn {
+    pub number: u8,
+    pub place: usize,
+    pub count: u64,
+    pub table: CountedTable,
+}
+
+#[repr(C)]
+pub struct CountedSpliced {
+    pub number: u8,
+    pub place: usize,
+    pub len: usize,
+    pub table: CountedTable,
 }
 
 #[repr(C)]
@@ -182,14 +217,6 @@ pub struct Frame {
     pub place: usize,
     pub at: usize,
     pub len: usize,
-}
-
-#[repr(C)]
-pub struct Spliced {
-    pub number: u8,
-    pub place: usize,
-    pub len: usize,
-    pub table: Table,
 }
 
 /// Where a reader stands in a column. The header says what each number is; any numbers may be lent.
@@ -405,6 +432,9 @@ extern "C" {
     pub fn grundavok_locate_over(corrections: *const u8, corrections_len: usize, first: *const u8, first_len: usize, spec: u32) -> Layered;
     pub fn grundavok_put_frame(block: *const u8, block_len: usize, position: usize, size: usize, out: *mut u8, out_len: usize) -> Frame;
 
+    pub fn grundavok_open_table(block: *const u8, block_len: usize) -> CountedOpened;
+    pub fn grundavok_count(block: *const u8, block_len: usize, table: CountedTable, position: usize) -> CountedColumn;
+
     pub fn grundavok_table_reason(block: *const u8, block_len: usize) -> Reason;
     pub fn grundavok_column_reason(typ: u8, s: *const u8, s_len: usize) -> Reason;
     pub fn grundavok_block_reason(block: *const u8, block_len: usize, position: usize) -> Reason;
@@ -412,6 +442,7 @@ extern "C" {
     pub fn grundavok_splice_integer(
         block: *const u8,
         block_len: usize,
+        table: CountedTable,
         position: usize,
         start: usize,
         end: usize,
@@ -425,10 +456,11 @@ extern "C" {
         present_len: usize,
         out: *mut u8,
         out_len: usize,
-    ) -> Spliced;
+    ) -> CountedSpliced;
     pub fn grundavok_splice_integer_to_end(
         block: *const u8,
         block_len: usize,
+        table: CountedTable,
         position: usize,
         start: usize,
         new_values: *const u64,
@@ -441,10 +473,11 @@ extern "C" {
         present_len: usize,
         out: *mut u8,
         out_len: usize,
-    ) -> Spliced;
+    ) -> CountedSpliced;
     pub fn grundavok_splice_delta(
         block: *const u8,
         block_len: usize,
+        table: CountedTable,
         position: usize,
         start: usize,
         end: usize,
@@ -458,10 +491,11 @@ extern "C" {
         present_len: usize,
         out: *mut u8,
         out_len: usize,
-    ) -> Spliced;
+    ) -> CountedSpliced;
     pub fn grundavok_splice_delta_to_end(
         block: *const u8,
         block_len: usize,
+        table: CountedTable,
         position: usize,
         start: usize,
         new_values: *const i64,
@@ -474,10 +508,11 @@ extern "C" {
         present_len: usize,
         out: *mut u8,
         out_len: usize,
-    ) -> Spliced;
+    ) -> CountedSpliced;
     pub fn grundavok_splice_boolean(
         block: *const u8,
         block_len: usize,
+        table: CountedTable,
         position: usize,
         start: usize,
         end: usize,
@@ -487,10 +522,11 @@ extern "C" {
         values_len: usize,
         out: *mut u8,
         out_len: usize,
-    ) -> Spliced;
+    ) -> CountedSpliced;
     pub fn grundavok_splice_boolean_to_end(
         block: *const u8,
         block_len: usize,
+        table: CountedTable,
         position: usize,
         start: usize,
         new_values: *const u8,
@@ -499,10 +535,11 @@ extern "C" {
         values_len: usize,
         out: *mut u8,
         out_len: usize,
-    ) -> Spliced;
+    ) -> CountedSpliced;
     pub fn grundavok_splice_text(
         block: *const u8,
         block_len: usize,
+        table: CountedTable,
         position: usize,
         start: usize,
         end: usize,
@@ -522,10 +559,11 @@ extern "C" {
         present_len: usize,
         out: *mut u8,
         out_len: usize,
-    ) -> Spliced;
+    ) -> CountedSpliced;
     pub fn grundavok_splice_text_to_end(
         block: *const u8,
         block_len: usize,
+        table: CountedTable,
         position: usize,
         start: usize,
         bytes: *const u8,
@@ -544,7 +582,7 @@ extern "C" {
         present_len: usize,
         out: *mut u8,
         out_len: usize,
-    ) -> Spliced;
+    ) -> CountedSpliced;
 }
 
 /// A call of the boundary: slices, numbers, slices that it reads and slices that it writes, each slice as its pointer and its length.

@@ -10,6 +10,7 @@ fn calls() {
 
 #[cfg(grundavok_linked)]
 mod calls {
+    use grundavok::block::Block;
     use grundavok::column_specification::{ColumnSpec, ColumnType};
     use grundavok::corrections::{self, Layer};
     use grundavok::form::{self, Form};
@@ -17,7 +18,7 @@ mod calls {
     use grundavok::raw_column::{Frame, Row};
     use grundavok::reason::{self, About, Facts, Reason};
     use grundavok::salvage::{Salvaged, Survey};
-    use grundavok::{boolean, delta, leb128, raw_column, rle, splice, text, Refusal};
+    use grundavok::{boolean, delta, leb128, raw_call, raw_column, rle, text, Refusal};
 
     const DEPTHS: [u8; 8] = [0x01, 0x13, 0x05, 0x7f, 0xd0, 0x00, 0x02, 0x00];
     const TWO: [u8; 9] = [0x02, 0x12, 0x02, 0x13, 0x02, 0x02, 0x05, 0x7f, 0x05];
@@ -34,6 +35,10 @@ mod calls {
     const GAP: [u8; 6] = [0x00, 0xff, 0xff, 0xff, 0xff, 0x0f];
     const FLAGS: [u8; 5] = [0xff, 0xff, 0xff, 0xff, 0x0f];
     const EMPTY: [u8; 6] = [0xff, 0xff, 0xff, 0xff, 0x0f, 0x00];
+
+    fn block(bytes: &[u8]) -> Block {
+        Block::open(bytes).unwrap()
+    }
 
     fn refused<T>(number: u8, place: usize) -> Result<T, Refusal> {
         Err(Refusal { number, place })
@@ -137,32 +142,41 @@ mod calls {
 
     #[test]
     fn edits_of_names() {
-        let edit = splice::splice_text(&SIGNS, 0, 1, 2, &[Some("déjà"), None], MOST).unwrap();
-        assert_eq!(edit.names(), [Some("ab"), Some("déjà"), None, Some("c")]);
+        let mut signs = block(&SIGNS);
         assert_eq!(
-            text::names(raw_column::column(&edit.block, 0).unwrap(), MOST).unwrap(),
-            edit.names()
+            signs.splice_text(0, 1, 2, &[Some("déjà"), None], MOST),
+            Ok(vec![Some(2..4), Some(5..11), None, Some(15..16)])
         );
-        assert_eq!((edit.rows[0].len, edit.rows[1].start, edit.block.last()), (16, 16, Some(&0x02)));
-        let same = splice::splice_text(&SIGNS, 0, 3, 3, &[Some("c"), Some("c")], MOST).unwrap();
         assert_eq!(
-            same.block,
+            text::names(signs.column(0).unwrap(), MOST),
+            Ok(vec![Some("ab"), Some("déjà"), None, Some("c")])
+        );
+        let rows = signs.rows();
+        assert_eq!((rows[0].len, rows[1].start, signs.bytes().last()), (16, 16, Some(&0x02)));
+        let mut same = block(&SIGNS);
+        assert_eq!(
+            same.splice_text(0, 3, 3, &[Some("c"), Some("c")], MOST),
+            Ok(vec![Some(2..4), Some(2..4), Some(6..7), Some(6..7), Some(6..7)])
+        );
+        assert_eq!(
+            same.bytes(),
             [0x02, 0x15, 0x07, 0x24, 0x01, 0x02, 0x02, 0x61, 0x62, 0x03, 0x01, 0x63, 0x02]
         );
-        assert_eq!(same.list, [Some(7..9), Some(7..9), Some(11..12), Some(11..12), Some(11..12)]);
-        let absent = splice::splice_text_to_end(&SIGNS, 0, 0, &[None, None], MOST).unwrap();
+        let mut absent = block(&SIGNS);
+        assert_eq!(absent.splice_text_to_end(0, 0, &[None, None], MOST), Ok(vec![None, None]));
+        assert_eq!(absent.bytes(), [0x02, 0x15, 0x00, 0x24, 0x01, 0x02]);
+        assert_eq!(absent.count(0), Ok(0));
+        let mut emptied = block(&SIGNS);
+        assert_eq!(emptied.splice_text_to_end(0, 1, &[], MOST), Ok(vec![Some(2..4)]));
+        assert_eq!(emptied.rows()[0].len, 4);
+        let mut whole = block(&SIGNS);
+        assert_eq!(whole.splice_text(0, 0, 4, &[], MOST), refused(18, 0));
+        assert_eq!(whole.splice_text(1, 0, 1, &[], MOST), refused(17, 0));
+        assert_eq!(whole.splice_text(0, 0, 0, &[None; 6], MOST), refused(9, 0));
+        assert_eq!(whole, block(&SIGNS));
+        assert_eq!(whole.splice_text(0, 0, 0, &[None; 5], MOST).map(|list| list.len()), Ok(8));
         assert_eq!(
-            (absent.block, absent.list),
-            (vec![0x02, 0x15, 0x00, 0x24, 0x01, 0x02], vec![None, None])
-        );
-        let emptied = splice::splice_text_to_end(&SIGNS, 0, 1, &[], MOST).unwrap();
-        assert_eq!((emptied.rows[0].len, emptied.names()), (4, vec![Some("ab")]));
-        assert_eq!(splice::splice_text(&SIGNS, 0, 0, 4, &[], MOST), refused(18, 0));
-        assert_eq!(splice::splice_text(&SIGNS, 1, 0, 1, &[], MOST), refused(17, 0));
-        assert_eq!(splice::splice_text(&SIGNS, 0, 0, 0, &[None; 5], MOST).unwrap().list.len(), 8);
-        assert_eq!(splice::splice_text(&SIGNS, 0, 0, 0, &[None; 6], MOST), refused(9, 0));
-        assert_eq!(
-            splice::splice_text_to_end(&[0x01, 0x15, 0x02, 0x7f, 0x01], 0, 0, &[], MOST),
+            block(&[0x01, 0x15, 0x02, 0x7f, 0x01]).splice_text_to_end(0, 0, &[], MOST),
             refused(1, 1)
         );
     }
@@ -239,13 +253,13 @@ mod calls {
         assert_eq!(rle::readings(&FIVES).take(1_000).filter(|r| *r == Ok(Some(5))).count(), 1_000);
         assert_eq!(delta::readings(&GAP).take(1_000).filter(|r| *r == Ok(None)).count(), 1_000);
         let integers = [&[0x01, 0x12, 0x06][..], &FIVES].concat();
-        assert_eq!(splice::splice_integer(&integers, 0, 0, 1, &[], MOST), refused(9, 0));
-        assert_eq!(splice::splice_integer(&integers, 0, 1, 0, &[], MOST), refused(18, 0));
-        assert_eq!(splice::splice_integer_to_end(&integers, 0, 0, &[], MOST), refused(9, 0));
-        assert_eq!(splice::splice_delta(&DEPTHS, 0, 0, 0, &[None; 5], MOST).unwrap().list.len(), 8);
-        assert_eq!(splice::splice_delta(&DEPTHS, 0, 0, 0, &[None; 6], MOST), refused(9, 0));
+        assert_eq!(block(&integers).splice_integer(0, 0, 1, &[], MOST), refused(9, 0));
+        assert_eq!(block(&integers).splice_integer(0, 1, 0, &[], MOST), refused(18, 0));
+        assert_eq!(block(&integers).splice_integer_to_end(0, 0, &[], MOST), refused(9, 0));
+        assert_eq!(block(&DEPTHS).splice_delta(0, 0, 0, &[None; 5], MOST).map(|list| list.len()), Ok(8));
+        assert_eq!(block(&DEPTHS).splice_delta(0, 0, 0, &[None; 6], MOST), refused(9, 0));
         let flags = [&[0x01, 0x14, 0x05][..], &FLAGS].concat();
-        assert_eq!(splice::splice_boolean(&flags, 0, 0, 1, &[], MOST), refused(9, 0));
+        assert_eq!(block(&flags).splice_boolean(0, 0, 1, &[], MOST), refused(9, 0));
     }
 
     #[test]
@@ -398,34 +412,48 @@ mod calls {
 
     #[test]
     fn edits() {
-        let edit = splice::splice_delta(&DEPTHS, 0, 1, 2, &[Some(81)], MOST).unwrap();
-        assert_eq!(edit.block, [0x01, 0x13, 0x05, 0x7d, 0xd0, 0x00, 0x01, 0x7f]);
-        assert_eq!(edit.list, [Some(80), Some(81), Some(80)]);
+        let mut depths = block(&DEPTHS);
         assert_eq!(
-            splice::splice_delta(&DEPTHS, 0, 1, 2, &[Some(i64::MAX), Some(-2)], MOST),
-            refused(7, 2)
+            depths.splice_delta(0, 1, 2, &[Some(81)], MOST),
+            Ok(vec![Some(80), Some(81), Some(80)])
         );
-        assert_eq!(splice::splice_integer(&DEPTHS, 0, 0, 1, &[], MOST), refused(17, 0));
-        assert_eq!(splice::splice_integer(&TWO, 0, 3, 4, &[], MOST), refused(18, 0));
-        assert_eq!(splice::splice_integer(&TWO, 0, 0, usize::MAX, &[], MOST), refused(18, 0));
-        let emptied = splice::splice_integer_to_end(&TWO, 0, 0, &[], MOST).unwrap();
+        assert_eq!(depths.bytes(), [0x01, 0x13, 0x05, 0x7d, 0xd0, 0x00, 0x01, 0x7f]);
+        let before = depths.clone();
+        assert_eq!(depths.splice_delta(0, 1, 2, &[Some(i64::MAX), Some(-2)], MOST), refused(7, 2));
+        assert_eq!(depths.splice_integer(0, 0, 1, &[], MOST), refused(17, 0));
+        assert_eq!(depths.splice_delta(1, 0, 1, &[], MOST), refused(16, 0));
+        assert_eq!(depths, before);
+        assert_eq!(depths.splice_delta_to_end(0, 1, &[Some(82)], MOST), Ok(vec![Some(80), Some(82)]));
+        let mut two = block(&TWO);
+        assert_eq!(two.splice_integer(0, 3, 4, &[], MOST), refused(18, 0));
+        assert_eq!(two.splice_integer(0, 0, usize::MAX, &[], MOST), refused(18, 0));
+        assert_eq!(two.splice_integer_to_end(0, 0, &[], MOST), Ok(vec![]));
+        assert_eq!(two.bytes(), [0x02, 0x12, 0x00, 0x13, 0x02, 0x7f, 0x05]);
+        let mut flags = block(&[0x01, 0x14, 0x03, 0x00, 0x01, 0x02]);
+        assert_eq!(flags.splice_boolean_to_end(0, 4, &[], MOST), refused(18, 0));
+        assert_eq!(flags.splice_boolean(0, 0, 1, &[false], MOST), Ok(vec![false; 3]));
+        assert_eq!(flags.bytes(), [0x01, 0x14, 0x01, 0x03]);
+    }
+
+    #[test]
+    fn stored_counts() {
+        assert_eq!(Block::open(&[0x41]), refused(11, 0));
+        let mut two = block(&TWO);
         assert_eq!(
-            (emptied.block.as_slice(), emptied.list.len()),
-            (&[0x02, 0x12, 0x00, 0x13, 0x02, 0x7f, 0x05][..], 0)
+            (two.rows(), two.column(1)),
+            (raw_column::read_table(&TWO).unwrap().0, Ok(&TWO[7..9]))
         );
-        let flags = splice::splice_boolean(&[0x01, 0x14, 0x03, 0x00, 0x01, 0x02], 0, 0, 1, &[false], MOST).unwrap();
-        assert_eq!(
-            (flags.block.as_slice(), flags.list.as_slice()),
-            (&[0x01, 0x14, 0x01, 0x03][..], &[false; 3][..])
-        );
-        assert_eq!(
-            splice::splice_delta_to_end(&DEPTHS, 0, 1, &[Some(81)], MOST).unwrap().list,
-            [Some(80), Some(81)]
-        );
-        assert_eq!(
-            splice::splice_boolean_to_end(&[0x01, 0x14, 0x03, 0x00, 0x01, 0x02], 0, 4, &[], MOST),
-            refused(18, 0)
-        );
+        assert_eq!(two.column(2), refused(16, 0));
+        assert_eq!(two.count(2), refused(16, 0));
+        assert_eq!(two, block(&TWO));
+        assert_eq!((two.count(0), two.count(1), two.count(0)), (Ok(2), Ok(1), Ok(2)));
+        assert_eq!(two.splice_integer(0, 2, 2, &[Some(7), None], MOST).map(|list| list.len()), Ok(4));
+        assert_eq!((two.count(0), two.count(1)), (Ok(4), Ok(1)));
+        assert_eq!(two.splice_delta(1, 0, 1, &[None, None], MOST), Ok(vec![None, None]));
+        assert_eq!((two.count(0), two.count(1)), (Ok(4), Ok(0)));
+        let mut cut = block(&[0x02, 0x12, 0x02, 0x17, 0x00, 0x7e, 0x05]);
+        assert_eq!((cut.count(0), cut.count(1)), (refused(21, 2), refused(17, 0)));
+        assert_eq!(cut, block(&[0x02, 0x12, 0x02, 0x17, 0x00, 0x7e, 0x05]));
     }
 
     fn run(number: u8, place: usize, run: u64, begins: usize, count: Option<i128>, index: u64, facts: Facts) -> Reason {
@@ -482,6 +510,19 @@ mod calls {
             twelve.to_string(),
             "refusal 21 at 2: run 0, which begins at byte 0 with the count -2, at reading 1: the bytes end where a number is due"
         );
+    }
+
+    /// The boundary itself, lent tables that no `Block` has.
+    #[test]
+    fn lent_tables() {
+        let empty = [0x01, 0x12, 0x00];
+        let mut table = raw_call!(grundavok_open_table, [empty], (), [], []).table;
+        (table.counts[0], table.known[0]) = (1, 1);
+        let told = raw_call!(grundavok_count, [empty], (table, 0), [], []);
+        assert_eq!((told.number, told.count, told.table), (0, 1, table));
+        table.table.lens[0] = 1;
+        let other = raw_call!(grundavok_count, [empty], (table, 1), [], []);
+        assert_eq!((other.number, other.place, other.count, other.table), (25, 0, 0, table));
     }
 
     #[test]

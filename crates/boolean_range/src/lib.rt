@@ -54,7 +54,7 @@ fn put_block_u8(
     }
     let at = frame.at;
     fill_u8(values, out, at);
-    splice::block_answer(out, frame.len)
+    splice::block_answer(out, frame.len, size, values.len())
 }
 
 // 10, or the new block, for the list that stands in the slots.

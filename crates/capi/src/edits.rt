@@ -3,17 +3,19 @@ ghost use mathlib.Core.Path.{_≡_};
 ghost use lib.IntN.{pos};
 ghost use lib.ListN.{length};
 ghost use Rattle.slots.specs.Splice.{spliceAnswer, splicedSlots};
-ghost use Rattle.splice.specs.Contract.{OptionalSpliced, BooleanSpliced, TextSpliced};
 ghost use Rattle.splice.specs.Kinds.{integer, delta, boolean, text};
+ghost use Rattle.counted_table.specs.Calls.{OptionalCounted, BooleanCounted, TextCounted};
 ghost use Rattle.capi.specs.Cases.{counted};
 use crate::Counted;
 use crate::answers;
+use counted_table::CountedTable;
+use counted_table::edits::CountedSpliced;
 use splice::End;
-use splice::Spliced;
 
 #[no_mangle]
 pub extern "C" fn grundavok_splice_integer(
     block: &[u8],
+    table: CountedTable,
     position: usize,
     start: usize,
     end: usize,
@@ -22,12 +24,13 @@ pub extern "C" fn grundavok_splice_integer(
     values: &mut [u64],
     present: &mut [u8],
     out: &mut [u8],
-) -> Spliced
-    ensures { λ r. ⌜ OptionalSpliced integer 0 (now (block .entry)) position start (End.At end) (now («new_values» .entry)) (now («new_present» .entry))
+) -> CountedSpliced
+    ensures { λ r. ⌜ OptionalCounted integer 0 (now (block .entry)) table position start (End.At end) (now («new_values» .entry)) (now («new_present» .entry))
         (now (values .entry)) (now (values .exit)) (now (present .entry)) (now (present .exit)) (now (out .entry)) (now (out .exit)) r ⌝ }
 {
-    rle_range::splice_integer(
+    counted_table::edits::splice_integer(
         block,
+        table,
         position,
         start,
         End::At(end),
@@ -42,6 +45,7 @@ pub extern "C" fn grundavok_splice_integer(
 #[no_mangle]
 pub extern "C" fn grundavok_splice_delta(
     block: &[u8],
+    table: CountedTable,
     position: usize,
     start: usize,
     end: usize,
@@ -50,12 +54,13 @@ pub extern "C" fn grundavok_splice_delta(
     values: &mut [i64],
     present: &mut [u8],
     out: &mut [u8],
-) -> Spliced
-    ensures { λ r. ⌜ OptionalSpliced delta (pos 0) (now (block .entry)) position start (End.At end) (now («new_values» .entry)) (now («new_present» .entry))
+) -> CountedSpliced
+    ensures { λ r. ⌜ OptionalCounted delta (pos 0) (now (block .entry)) table position start (End.At end) (now («new_values» .entry)) (now («new_present» .entry))
         (now (values .entry)) (now (values .exit)) (now (present .entry)) (now (present .exit)) (now (out .entry)) (now (out .exit)) r ⌝ }
 {
-    delta_range::splice_delta(
+    counted_table::edits::splice_delta(
         block,
+        table,
         position,
         start,
         End::At(end),
@@ -70,18 +75,20 @@ pub extern "C" fn grundavok_splice_delta(
 #[no_mangle]
 pub extern "C" fn grundavok_splice_boolean(
     block: &[u8],
+    table: CountedTable,
     position: usize,
     start: usize,
     end: usize,
     new_values: &[u8],
     values: &mut [u8],
     out: &mut [u8],
-) -> Spliced
-    ensures { λ r. ⌜ BooleanSpliced boolean (now (block .entry)) position start (End.At end) (now («new_values» .entry))
+) -> CountedSpliced
+    ensures { λ r. ⌜ BooleanCounted boolean (now (block .entry)) table position start (End.At end) (now («new_values» .entry))
         (now (values .entry)) (now (values .exit)) (now (out .entry)) (now (out .exit)) r ⌝ }
 {
-    boolean_range::splice_boolean(
+    counted_table::edits::splice_boolean(
         block,
+        table,
         position,
         start,
         End::At(end),
@@ -94,6 +101,7 @@ pub extern "C" fn grundavok_splice_boolean(
 #[no_mangle]
 pub extern "C" fn grundavok_splice_text(
     block: &[u8],
+    table: CountedTable,
     position: usize,
     start: usize,
     end: usize,
@@ -105,13 +113,14 @@ pub extern "C" fn grundavok_splice_text(
     lens: &mut [u64],
     present: &mut [u8],
     out: &mut [u8],
-) -> Spliced
-    ensures { λ r. ⌜ TextSpliced text (now (block .entry)) position start (End.At end) (now (bytes .entry)) (now («new_starts» .entry))
+) -> CountedSpliced
+    ensures { λ r. ⌜ TextCounted text (now (block .entry)) table position start (End.At end) (now (bytes .entry)) (now («new_starts» .entry))
         (now («new_lens» .entry)) (now («new_present» .entry)) (now (starts .entry)) (now (starts .exit)) (now (lens .entry)) (now (lens .exit))
         (now (present .entry)) (now (present .exit)) (now (out .entry)) (now (out .exit)) r ⌝ }
 {
-    text_encoder::range::splice_text(
+    counted_table::edits::splice_text(
         block,
+        table,
         position,
         start,
         End::At(end),

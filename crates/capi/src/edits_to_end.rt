@@ -1,13 +1,15 @@
 // Edits that take all readings of a column from a start on.
 ghost use lib.IntN.{pos};
-ghost use Rattle.splice.specs.Contract.{OptionalSpliced, BooleanSpliced, TextSpliced};
 ghost use Rattle.splice.specs.Kinds.{integer, delta, boolean, text};
+ghost use Rattle.counted_table.specs.Calls.{OptionalCounted, BooleanCounted, TextCounted};
+use counted_table::CountedTable;
+use counted_table::edits::CountedSpliced;
 use splice::End;
-use splice::Spliced;
 
 #[no_mangle]
 pub extern "C" fn grundavok_splice_integer_to_end(
     block: &[u8],
+    table: CountedTable,
     position: usize,
     start: usize,
     new_values: &[u64],
@@ -15,12 +17,13 @@ pub extern "C" fn grundavok_splice_integer_to_end(
     values: &mut [u64],
     present: &mut [u8],
     out: &mut [u8],
-) -> Spliced
-    ensures { λ r. ⌜ OptionalSpliced integer 0 (now (block .entry)) position start End.OfList (now («new_values» .entry)) (now («new_present» .entry))
+) -> CountedSpliced
+    ensures { λ r. ⌜ OptionalCounted integer 0 (now (block .entry)) table position start End.OfList (now («new_values» .entry)) (now («new_present» .entry))
         (now (values .entry)) (now (values .exit)) (now (present .entry)) (now (present .exit)) (now (out .entry)) (now (out .exit)) r ⌝ }
 {
-    rle_range::splice_integer(
+    counted_table::edits::splice_integer(
         block,
+        table,
         position,
         start,
         End::OfList,
@@ -35,6 +38,7 @@ pub extern "C" fn grundavok_splice_integer_to_end(
 #[no_mangle]
 pub extern "C" fn grundavok_splice_delta_to_end(
     block: &[u8],
+    table: CountedTable,
     position: usize,
     start: usize,
     new_values: &[i64],
@@ -42,12 +46,13 @@ pub extern "C" fn grundavok_splice_delta_to_end(
     values: &mut [i64],
     present: &mut [u8],
     out: &mut [u8],
-) -> Spliced
-    ensures { λ r. ⌜ OptionalSpliced delta (pos 0) (now (block .entry)) position start End.OfList (now («new_values» .entry)) (now («new_present» .entry))
+) -> CountedSpliced
+    ensures { λ r. ⌜ OptionalCounted delta (pos 0) (now (block .entry)) table position start End.OfList (now («new_values» .entry)) (now («new_present» .entry))
         (now (values .entry)) (now (values .exit)) (now (present .entry)) (now (present .exit)) (now (out .entry)) (now (out .exit)) r ⌝ }
 {
-    delta_range::splice_delta(
+    counted_table::edits::splice_delta(
         block,
+        table,
         position,
         start,
         End::OfList,
@@ -62,21 +67,32 @@ pub extern "C" fn grundavok_splice_delta_to_end(
 #[no_mangle]
 pub extern "C" fn grundavok_splice_boolean_to_end(
     block: &[u8],
+    table: CountedTable,
     position: usize,
     start: usize,
     new_values: &[u8],
     values: &mut [u8],
     out: &mut [u8],
-) -> Spliced
-    ensures { λ r. ⌜ BooleanSpliced boolean (now (block .entry)) position start End.OfList (now («new_values» .entry))
+) -> CountedSpliced
+    ensures { λ r. ⌜ BooleanCounted boolean (now (block .entry)) table position start End.OfList (now («new_values» .entry))
         (now (values .entry)) (now (values .exit)) (now (out .entry)) (now (out .exit)) r ⌝ }
 {
-    boolean_range::splice_boolean(block, position, start, End::OfList, new_values, values, out)
+    counted_table::edits::splice_boolean(
+        block,
+        table,
+        position,
+        start,
+        End::OfList,
+        new_values,
+        values,
+        out,
+    )
 }
 
 #[no_mangle]
 pub extern "C" fn grundavok_splice_text_to_end(
     block: &[u8],
+    table: CountedTable,
     position: usize,
     start: usize,
     bytes: &[u8],
@@ -87,13 +103,14 @@ pub extern "C" fn grundavok_splice_text_to_end(
     lens: &mut [u64],
     present: &mut [u8],
     out: &mut [u8],
-) -> Spliced
-    ensures { λ r. ⌜ TextSpliced text (now (block .entry)) position start End.OfList (now (bytes .entry)) (now («new_starts» .entry))
+) -> CountedSpliced
+    ensures { λ r. ⌜ TextCounted text (now (block .entry)) table position start End.OfList (now (bytes .entry)) (now («new_starts» .entry))
         (now («new_lens» .entry)) (now («new_present» .entry)) (now (starts .entry)) (now (starts .exit)) (now (lens .entry)) (now (lens .exit))
         (now (present .entry)) (now (present .exit)) (now (out .entry)) (now (out .exit)) r ⌝ }
 {
-    text_encoder::range::splice_text(
+    counted_table::edits::splice_text(
         block,
+        table,
         position,
         start,
         End::OfList,

@@ -1,9 +1,10 @@
-// Tables, and a column's part of its block as a start and a length: the caller has the block.
+// Tables, the counts that they keep, and a column's part of its block as a start and a length: the caller has the block.
 ghost use mathlib.Core.Path.{_≡_};
 ghost use lib.ListN.{length};
 ghost use Rattle.block_frame.specs.Frame.{framed, frameOf, frameOut};
 ghost use Rattle.column_part.specs.Part.{partAt, partFor};
 ghost use Rattle.corrections.specs.Over.{over};
+ghost use Rattle.counted_table.specs.Counts.{countedOpened, counted};
 ghost use Rattle.raw_column.specs.Rows.{opened};
 ghost use Rattle.raw_column.specs.Table.{parse};
 ghost use Rattle.capi.specs.Cases.{partAs, layeredAs, frameAs};
@@ -11,6 +12,9 @@ use crate::Frame;
 use crate::Layered;
 use crate::Part;
 use crate::answers;
+use counted_table::CountedColumn;
+use counted_table::CountedOpened;
+use counted_table::CountedTable;
 use raw_column::Opened;
 
 #[no_mangle]
@@ -18,6 +22,24 @@ pub extern "C" fn grundavok_read_table(block: &[u8]) -> Opened
     ensures { λ r. ⌜ r ≡ opened (parse (now (block .entry))) ⌝ }
 {
     raw_column::read_table(block)
+}
+
+#[no_mangle]
+pub extern "C" fn grundavok_open_table(block: &[u8]) -> CountedOpened
+    ensures { λ r. ⌜ r ≡ countedOpened (parse (now (block .entry))) ⌝ }
+{
+    counted_table::open(block)
+}
+
+#[no_mangle]
+pub extern "C" fn grundavok_count(
+    block: &[u8],
+    table: CountedTable,
+    position: usize,
+) -> CountedColumn
+    ensures { λ r. ⌜ r ≡ counted table (now (block .entry)) position ⌝ }
+{
+    counted_table::count(block, table, position)
 }
 
 #[no_mangle]

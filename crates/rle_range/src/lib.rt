@@ -101,7 +101,7 @@ fn put_block_u64(
     }
     let at = frame.at;
     fill_u64(values, present, out, at);
-    splice::block_answer(out, frame.len)
+    splice::block_answer(out, frame.len, size, values.len())
 }
 
 // 7, 10, or the new block, for the list that stands in the slots.

@@ -110,7 +110,7 @@ module _ (s : List ℕ) (position start : ℕ) (end : End) (new v out : List ℕ
   boolean-stopped {number} {place} q a =
       let k = plan-stops boolean boolean-counts s position start end (givenBoolean new) new (length new) (λ g h. refl) (length v) (length out) (q ∙ as-planned) in
       record {
-        answer = a ∙ ap answered (sym k);
+        answer = a ∙ ap (answered boolean) (sym k);
         values = ap (λ (x : Edited ℕ). slotsLeft 0 itself x v) (sym k);
         output = ap (λ (x : Edited ℕ). outLeft x out) (sym k);
       }

@@ -27,7 +27,7 @@ use Rattle.text.specs.Given.{nameList, namesGiven}
 use Rattle.splice.specs.Kind.{Kind}
 use Rattle.splice.specs.Kinds.{integer, delta, boolean, text}
 use Rattle.splice.specs.Edit.{Edited, stop, late, accepted, endIn, givenOptional, givenBoolean, givenText, editIn, edited}
-use Rattle.splice.specs.Edit.{acceptance, answered, slotsLeft, outLeft}
+use Rattle.splice.specs.Edit.{acceptance, readingsOf, answered, slotsLeft, outLeft}
 use Rattle.splice.specs.Contract.{slotIn, flagIn, itself, startsIn, lengthIn, OptionalSpliced, BooleanSpliced, TextSpliced}
 use Rattle.splice.specs.Lent.{Lent}
 use Rattle.splice.specs.declared.Spliced.{Spliced}
@@ -74,7 +74,7 @@ pub record Writes {A : Type 0} (K : Kind A) (s : List ℕ) (position start : ℕ
   pub column : columnOf (blockOf r out′) position ≡ K .writes (newList K s position start end new)
   pub block : blockOf r out′ ≡ blockBytes specs (set (columnsOf s) position (K .writes (newList K s position start end new)))
   pub behind : drop (r .len) out′ ≡ drop (r .len) out
-  pub answer : r ≡ acceptance (blockOf r out′)
+  pub answer : r ≡ acceptance (readingsOf K (newList K s position start end new)) (blockOf r out′)
 
 -- new readings that are given twice, in whatever slices: the same list, and judged alike (8, 20) beside any slots. `optional-given`, `absent-given`
 -- and `names-given` below have it of another value under an absent reading's flag and of other pairs for the same names
@@ -108,20 +108,20 @@ pub record DemandThree {A S G : Type 0} (K : Kind A) (position start : ℕ) (end
 -- ---- an edit that is answered with number 0 is accepted
 
 -- what its answer and output say of it
-pub record Accepted {A : Type 0} (e : Edited A) (out out′ : List ℕ) (r : Spliced) : Type 0 where
+pub record Accepted {A : Type 0} (K : Kind A) (e : Edited A) (out out′ : List ℕ) (r : Spliced) : Type 0 where
   pub old : ℕ
   pub xs : List A
   pub new : List ℕ
   pub is : e ≡ accepted old xs new
   pub block : blockOf r out′ ≡ new
   pub behind : drop (r .len) out′ ≡ drop (r .len) out
-  pub answer : r ≡ acceptance new
+  pub answer : r ≡ acceptance (readingsOf K xs) new
 
-pub is-accepted : {A : Type 0} (e : Edited A) (out out′ : List ℕ) (r : Spliced) → SomeStop e → r ≡ answered e → out′ ≡ outLeft e out → r .number ≡ 0
-    → Accepted e out out′ r
-is-accepted (stop number place) out out′ r h a o z = absurd (omega (arith, ap (λ (x : Spliced). x .number) a))
-is-accepted (late number place old xs) out out′ r h a o z = absurd (omega (arith, ap (λ (x : Spliced). x .number) a))
-is-accepted (accepted old xs new) out out′ r h a o z =
+pub is-accepted : {A : Type 0} (K : Kind A) (e : Edited A) (out out′ : List ℕ) (r : Spliced) → SomeStop e → r ≡ answered K e → out′ ≡ outLeft e out
+    → r .number ≡ 0 → Accepted K e out out′ r
+is-accepted K (stop number place) out out′ r h a o z = absurd (omega (arith, ap (λ (x : Spliced). x .number) a))
+is-accepted K (late number place old xs) out out′ r h a o z = absurd (omega (arith, ap (λ (x : Spliced). x .number) a))
+is-accepted K (accepted old xs new) out out′ r h a o z =
     let l : r .len ≡ length new = ap (λ (x : Spliced). x .len) a in
     record {
       old = old;
@@ -147,7 +147,7 @@ record Sound (s : List ℕ) : Type 0 where
   is : parse s ≡ tab specs lens next
 
 module _ {A : Type 0} (K : Kind A) (s : List ℕ) (position start : ℕ) (end : End) (given : Answer) (new : List A) (slots : ℕ)
-    (out out′ : List ℕ) (r : Spliced) (a : Accepted (edited K s position start end given new slots (length out)) out out′ r) where
+    (out out′ : List ℕ) (r : Spliced) (a : Accepted K (edited K s position start end given new slots (length out)) out out′ r) where
   has-table : Sound s
   unfolding edited
   has-table = go (parse s) refl (a .is)
@@ -206,7 +206,10 @@ module _ {A : Type 0} (K : Kind A) (s : List ℕ) (position start : ℕ) (end : 
             (sym (columns-are s (t .specs) (t .lens) (t .next) (t .is)))
             ∙ ap (λ (x : List A). blockBytes (t .specs) (set (columnsOf s) position (K .writes x))) run-list;
         behind = a .behind;
-        answer = a .answer ∙ ap acceptance (sym (a .block));
+        answer =
+            a .answer
+            ∙ ap (acceptance (readingsOf K (a .xs))) (sym (a .block))
+            ∙ ap (λ (x : List A). acceptance (readingsOf K x) (blockOf r out′)) run-list;
       }
 
 -- ---- the first sentence, of two runs
@@ -217,10 +220,10 @@ frontOf (stop number place) = []
 frontOf (late number place old xs) = []
 frontOf (accepted old xs block) = block
 
-front-is : {A : Type 0} (e : Edited A) (out out′ : List ℕ) (r : Spliced) → r ≡ answered e → out′ ≡ outLeft e out → blockOf r out′ ≡ frontOf e
-front-is (stop number place) out out′ r a o = ap (λ (x : Spliced). take (x .len) out′) a
-front-is (late number place old xs) out out′ r a o = ap (λ (x : Spliced). take (x .len) out′) a
-front-is (accepted old xs block) out out′ r a o =
+front-is : {A : Type 0} (K : Kind A) (e : Edited A) (out out′ : List ℕ) (r : Spliced) → r ≡ answered K e → out′ ≡ outLeft e out → blockOf r out′ ≡ frontOf e
+front-is K (stop number place) out out′ r a o = ap (λ (x : Spliced). take (x .len) out′) a
+front-is K (late number place old xs) out out′ r a o = ap (λ (x : Spliced). take (x .len) out′) a
+front-is K (accepted old xs block) out out′ r a o =
     ap (λ (x : Spliced). take (x .len) out′) a ∙ ap (take (length block)) o ∙ take-at block (drop (length block) out) (length block) refl
 
 one-column : {A : Type 0} {K : Kind A} {s s₂ specs lens : List ℕ} {position : ℕ} {e e₂ : Edited A} → Alike K s s₂ specs lens position e e₂
@@ -240,7 +243,7 @@ module _ {A S G : Type 0} (K : Kind A) (numbered : (c : List ℕ) → Numbered (
   editOf g s slots room = edited K s position start end (judged g slots) (says g) (count slots) room
 
   record Run (g : G) (s : List ℕ) (slots slots′ : S) (out out′ : List ℕ) (r : Spliced) : Type 0 where
-    answer : r ≡ answered (editOf g s slots (length out))
+    answer : r ≡ answered K (editOf g s slots (length out))
     slots-are : slots′ ≡ left slots (editOf g s slots (length out))
     output : out′ ≡ outLeft (editOf g s slots (length out)) out
 
@@ -252,8 +255,8 @@ module _ {A S G : Type 0} (K : Kind A) (numbered : (c : List ℕ) → Numbered (
     demand g s slots slots′ out out′ r p q c =
         let R = ran g s slots slots′ out out′ r c in
         let some = edited-some K numbered start end (says g) (count slots) (length out) s position (judged g slots) (judged-some g slots) in
-        let took : r .number ≡ 0 → Accepted (editOf g s slots (length out)) out out′ r =
-        is-accepted (editOf g s slots (length out)) out out′ r some (R .answer) (R .output) in
+        let took : r .number ≡ 0 → Accepted K (editOf g s slots (length out)) out out′ r =
+        is-accepted K (editOf g s slots (length out)) out out′ r some (R .answer) (R .output) in
         record {
           depends = λ g₂ s₂ slots₂′ out₂ out₂′ r₂ o d n c₂. two g₂ s₂ slots₂′ out₂ out₂′ r₂ o d n R (ran g₂ s₂ slots slots₂′ out₂ out₂′ r₂ c₂);
           keeps = λ z. run-keeps K s position start end (judged g slots) (says g) (count slots) out out′ r (took z) p q;
@@ -273,15 +276,15 @@ module _ {A S G : Type 0} (K : Kind A) (numbered : (c : List ℕ) → Numbered (
               answers = R .answer ∙ alike-answer k ∙ sym (R₂ .answer);
               slots = R .slots-are ∙ one-left s s₂ (o .specs) (o .lens) e e₂ slots k ∙ sym (R₂ .slots-are);
               column =
-                  ap (λ (b : List ℕ). columnOf b position) (front-is e out out′ r (R .answer) (R .output))
+                  ap (λ (b : List ℕ). columnOf b position) (front-is K e out out′ r (R .answer) (R .output))
                   ∙ one-column k
-                  ∙ sym (ap (λ (b : List ℕ). columnOf b position) (front-is e₂ out₂ out₂′ r₂ (R₂ .answer) (R₂ .output)));
+                  ∙ sym (ap (λ (b : List ℕ). columnOf b position) (front-is K e₂ out₂ out₂′ r₂ (R₂ .answer) (R₂ .output)));
               behind = λ m.
                   ap (λ (x : Spliced). drop (x .len) out′) (R .answer)
-                  ∙ ap (drop (answered e .len)) (R .output)
+                  ∙ ap (drop (answered K e .len)) (R .output)
                   ∙ alike-behind out k
-                  ∙ ap (λ (x : List ℕ). drop (answered e₂ .len) (outLeft e₂ x)) (sym m)
-                  ∙ sym (ap (λ (x : Spliced). drop (x .len) out₂′) (R₂ .answer) ∙ ap (drop (answered e₂ .len)) (R₂ .output));
+                  ∙ ap (λ (x : List ℕ). drop (answered K e₂ .len) (outLeft e₂ x)) (sym m)
+                  ∙ sym (ap (λ (x : Spliced). drop (x .len) out₂′) (R₂ .answer) ∙ ap (drop (answered K e₂ .len)) (R₂ .output));
               refused = λ z m.
                   R .output
                   ∙ alike-refused out k (λ y. z (ap (λ (x : Spliced). x .number) (R .answer) ∙ y))

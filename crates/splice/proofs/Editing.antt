@@ -24,11 +24,12 @@ use Rattle.splice.proofs.Refusing.{refuses-answer, refuses-out, refuses
 
 -- ---- the end of an edit does not depend on the old list's length, but for the slots
 module _ {A : Type 0} (K : Kind A) (xs : List A) (room : ℕ) (block : List ℕ → List ℕ) where
-  same-answer : (n m : ℕ) (w : Option ℕ) → answered (finished K n xs room block w) ≡ answered (finished K m xs room block w)
+  same-answer : (n m : ℕ) (w : Option ℕ) → answered K (finished K n xs room block w) ≡ answered K (finished K m xs room block w)
   same-answer n m (some i) = refuses-answer K 7 i n xs ∙ sym (refuses-answer K 7 i m xs)
   same-answer n m none = go (leb (length (block (K .writes xs))) room)
     where
-      go : (b : Bool) → answered (cond b (accepted n xs (block (K .writes xs))) (refuses K 10 0 n xs)) ≡ answered (cond b (accepted m xs (block (K .writes xs))) (refuses K 10 0 m xs))
+      go : (b : Bool) → answered K (cond b (accepted n xs (block (K .writes xs))) (refuses K 10 0 n xs))
+          ≡ answered K (cond b (accepted m xs (block (K .writes xs))) (refuses K 10 0 m xs))
       go true = refl
       go false = refuses-answer K 10 0 n xs ∙ sym (refuses-answer K 10 0 m xs)
 
@@ -101,11 +102,11 @@ module _ {A : Type 0} (K : Kind A) {s : List ℕ} {position start : ℕ} {end : 
     unfolding finishedAt
     at-row = rw (R .located .row .is)
 
-    pub edit-answer : r ≡ answered (edited K s position start end given new slots (length out))
+    pub edit-answer : r ≡ answered K (edited K s position start end given new slots (length out))
     edit-answer =
-        F .answer ∙ ap answered at-row
+        F .answer ∙ ap (answered K) at-row
         ∙ same-answer K newList (length out) (newBlock s (R .located .row .specs) (R .located .row .lens) (R .located .row .next) position) 0 old (K .wide newList)
-        ∙ ap answered (sym (ready-edit (length out) q))
+        ∙ ap (answered K) (sym (ready-edit (length out) q))
 
     pub edit-output : out′ ≡ outLeft (edited K s position start end given new slots (length out)) out
     edit-output =

@@ -19,13 +19,13 @@ use Rattle.block_frame.specs.Columns.{tableBytes, newBlock}
 use Rattle.column_part.specs.Part.{startOf, partAt, bytesOf}
 use Rattle.raw_column.specs.Rows.{opened}
 use Rattle.block_frame.specs.Frame.{frontOf, tailOf}
-use Rattle.block_frame.proofs.Blocks.{columnsOf, columns-are, Agree, columns-agree, new-block, accepted-written, others-kept, parts-kept}
+use Rattle.block_frame.proofs.Blocks.{columnsOf, Replaced, columns-are, Agree, columns-agree, new-block, accepted-written, others-kept, parts-kept}
 use Rattle.block_frame.proofs.Cutting.{cut-at}
 use Rattle.block_frame.proofs.Tables.{Below, table-fills, table-back}
 use Rattle.slots.specs.Splice.{spliced}
 use Rattle.splice.specs.Kind.{Kind}
 use Rattle.splice.specs.Edit.{Edited, stop, late, accepted, endIn, below, serves, refuses, finished, editList, readBy, editColumn, editIn, edited}
-use Rattle.splice.specs.Edit.{answered, slotsLeft, outLeft}
+use Rattle.splice.specs.Edit.{readingsOf, answered, slotsLeft, outLeft}
 use Rattle.splice.specs.declared.End.{End}
 use Rattle.splice.proofs.Planning.{in-order}
 use Rattle.splice.proofs.Refusing.{refuses-by}
@@ -164,8 +164,10 @@ module _ {A : Type 0} (K : Kind A) (s specs lens : List ℕ) (next position star
     pub within : endIn end old ≤ old
     pub list : xs ≡ spliced (K .reads (columnAt s lens next position) .readings) start (endIn end old) new
     pub few : length xs ≤ limit
+    pub narrow : K .wide xs ≡ none
     pub block-is : block ≡ newBlock s specs lens next position (K .writes xs)
     pub served : position < length specs
+    pub kind-is : serves (K .kind) (getD specs position 0) ≡ true
     pub fits : length block ≤ room
 
   abbrev RightIn : Edited A → Type 0
@@ -173,9 +175,9 @@ module _ {A : Type 0} (K : Kind A) (s specs lens : List ℕ) (next position star
   RightIn (late number place old xs) = Unit {0}
   RightIn (accepted old xs block) = Right old xs block
 
-  right-list : (slots : ℕ) → position < length specs → below start end ≡ false → K .reads (columnAt s lens next position) .ending ≡ Ending.sound
+  right-list : (slots : ℕ) → position < length specs → serves (K .kind) (getD specs position 0) ≡ true → below start end ≡ false → K .reads (columnAt s lens next position) .ending ≡ Ending.sound
       → RightIn (editList K (K .reads (columnAt s lens next position) .readings) start end new slots room (newBlock s specs lens next position))
-  right-list slots row n e =
+  right-list slots row kind n e =
       let old = K .reads (columnAt s lens next position) .readings in
       let xs = spliced old start (endIn end (length old)) new in
       cond-by RightIn (ltb (length old) start) (λ h. tt)
@@ -183,16 +185,16 @@ module _ {A : Type 0} (K : Kind A) (s specs lens : List ℕ) (next position star
       (λ b. cond-by RightIn (ltb limit (length xs)) (λ h. tt)
       (λ c. cond-by RightIn (ltb slots (max (length old) (length xs))) (λ h. tt)
       (λ h. go (in-order (length old) start end n (ltb-false (length old) start a)) (ltb-false (length old) (endIn end (length old)) b)
-      (ltb-false limit (length xs) c) (K .wide xs)))))
+      (ltb-false limit (length xs) c) (K .wide xs) refl))))
     where
       go : let n = length (K .reads (columnAt s lens next position) .readings) in start ≤ endIn end n → endIn end n ≤ n
           → let old = K .reads (columnAt s lens next position) .readings in let xs = spliced old start (endIn end (length old)) new in
-          length xs ≤ limit → (w : Option ℕ) → RightIn (finished K (length old) xs room (newBlock s specs lens next position) w)
-      go a b c (some i) =
+          length xs ≤ limit → (w : Option ℕ) → K .wide xs ≡ w → RightIn (finished K (length old) xs room (newBlock s specs lens next position) w)
+      go a b c (some i) m =
           let old = K .reads (columnAt s lens next position) .readings in
           let xs = spliced old start (endIn end (length old)) new in
           refuses-by K 7 i (length old) xs RightIn tt tt
-      go a b c none =
+      go a b c none m =
           let old = K .reads (columnAt s lens next position) .readings in
           let xs = spliced old start (endIn end (length old)) new in
           cond-by RightIn (leb (length (newBlock s specs lens next position (K .writes xs))) room)
@@ -203,30 +205,32 @@ module _ {A : Type 0} (K : Kind A) (s specs lens : List ℕ) (next position star
             within = b;
             list = refl;
             few = c;
+            narrow = m;
             block-is = refl;
             served = row;
+            kind-is = kind;
             fits = leb-true (length (newBlock s specs lens next position (K .writes xs))) room h;
           })
           (λ h. refuses-by K 10 0 (length old) xs RightIn tt tt)
 
-  right-column : (slots : ℕ) (given : Answer) → position < length specs → below start end ≡ false
+  right-column : (slots : ℕ) (given : Answer) → position < length specs → serves (K .kind) (getD specs position 0) ≡ true → below start end ≡ false
       → RightIn (editColumn K (columnAt s lens next position) start end given new slots room (newBlock s specs lens next position))
   unfolding outcome outcomeOf
-  right-column slots (refused number place) row n = tt
-  right-column slots (done g) row n = go (K .reads (columnAt s lens next position) .ending) refl
+  right-column slots (refused number place) row kind n = tt
+  right-column slots (done g) row kind n = go (K .reads (columnAt s lens next position) .ending) refl
     where
       go : (x : Ending) → K .reads (columnAt s lens next position) .ending ≡ x
           → RightIn (readBy K (outcomeOf (length (K .reads (columnAt s lens next position) .readings)) x)
           (K .reads (columnAt s lens next position) .readings)
           (λ old. editList K old start end new slots room (newBlock s specs lens next position)))
-      go Ending.sound e = right-list slots row n e
+      go Ending.sound e = right-list slots row kind n e
       go (fault number place) e = tt
 
   right-in : (slots : ℕ) (given : Answer) → RightIn (editIn K s position start end given new slots room (tab specs lens next))
   right-in slots given =
       cond-by RightIn (ltb position (length specs))
       (λ h. cond-by RightIn (serves (K .kind) (getD specs position 0))
-      (λ h′. cond-by RightIn (below start end) (λ h″. tt) (λ n. right-column slots given (ltb-true position (length specs) h) n))
+      (λ h′. cond-by RightIn (below start end) (λ h″. tt) (λ n. right-column slots given (ltb-true position (length specs) h) h′ n))
       (λ h′. tt)) (λ h. tt)
 
   pub accepted-right : (slots : ℕ) (given : Answer) (old : ℕ) (xs : List A) (block : List ℕ) → parse s ≡ tab specs lens next
@@ -253,8 +257,9 @@ module _ {A : Type 0} (K : Kind A) (s specs lens : List ℕ) (next position star
   accepted-good slots (done g) old xs block h = (g, refl)
   accepted-good slots (refused number place) old xs block h = absurd (subst Barred h (barred slots number place (parse s)))
 
-  -- the other columns keep the bytes that they had there
+  -- the other columns keep the bytes that they had there, and all rows their specifications
   pub record Kept (column block : List ℕ) : Type 0 where
+    pub replaced : Replaced s specs lens position column block
     pub chosen : bytesOf block (partAt block position) ≡ column
     pub others : (j : ℕ) → (j ≡ position → ⊥) → bytesOf block (partAt block j) ≡ bytesOf s (partAt s j)
 
@@ -273,8 +278,10 @@ module _ {A : Type 0} (K : Kind A) (s specs lens : List ℕ) (next position star
         length-append (frontOf s specs lens next position (length c)) (c ++ tailOf s lens next position),
         length-append c (tailOf s lens next position),
       ) in
-      let k = parts-kept s specs lens position c _ (others-kept s specs lens next position c short e (r .served) f) in
+      let o = others-kept s specs lens next position c short e (r .served) f in
+      let k = parts-kept s specs lens position c _ o in
       record {
+        replaced = subst (λ (x : List ℕ). Replaced s specs lens position c x) (sym b) o;
         chosen = ap (λ (x : List ℕ). bytesOf x (partAt x position)) b ∙ k .0;
         others = λ j d. ap (λ (x : List ℕ). bytesOf x (partAt x j)) b ∙ k .1 j d;
       }
@@ -291,12 +298,13 @@ pub record OnlyElsewhere (s s′ : List ℕ) (position : ℕ) : Type 0 where
 
 -- alike edits have one answer: number, place, length and new table
 pub alike-answer : {A : Type 0} {K : Kind A} {s s′ specs lens : List ℕ} {position : ℕ} {e e′ : Edited A} → Alike K s s′ specs lens position e e′
-    → answered e ≡ answered e′
+    → answered K e ≡ answered K e′
 alike-answer (both-stop number place) = refl
 alike-answer (both-late number place old xs) = refl
-alike-answer (both-accepted old xs block block′ a) =
-    ap (λ (t : Tab). record { table = opened t .table; number = 0; place = 0; len = length block }) (a .table ∙ sym (a .table′))
-    ∙ ap (λ (n : ℕ). record { table = opened (parse block′) .table; number = 0; place = 0; len = n }) (a .size)
+alike-answer {K = K} (both-accepted old xs block block′ a) =
+    let k = readingsOf K xs in
+    ap (λ (t : Tab). record { table = opened t .table; number = 0; place = 0; len = length block; readings = k }) (a .table ∙ sym (a .table′))
+    ∙ ap (λ (n : ℕ). record { table = opened (parse block′) .table; number = 0; place = 0; len = n; readings = k }) (a .size)
 
 -- and leave the same in the same slots
 pub alike-slots : {A B : Type 0} {K : Kind A} {s s′ specs lens : List ℕ} {position : ℕ} {e e′ : Edited A} (z : B) (f : List A → List B) (v : List B)
@@ -307,7 +315,7 @@ alike-slots z f v (both-accepted old xs block block′ a) = refl
 
 -- and the same in the same output: behind the new block, and after a refusal all of it
 pub alike-behind : {A : Type 0} {K : Kind A} {s s′ specs lens : List ℕ} {position : ℕ} {e e′ : Edited A} (out : List ℕ)
-    → Alike K s s′ specs lens position e e′ → drop (answered e .len) (outLeft e out) ≡ drop (answered e′ .len) (outLeft e′ out)
+    → Alike K s s′ specs lens position e e′ → drop (answered K e .len) (outLeft e out) ≡ drop (answered K e′ .len) (outLeft e′ out)
 alike-behind out (both-stop number place) = refl
 alike-behind out (both-late number place old xs) = refl
 alike-behind out (both-accepted old xs block block′ a) =
@@ -316,7 +324,7 @@ alike-behind out (both-accepted old xs block block′ a) =
     ∙ sym (drop-at block′ (drop (length block′) out) (length block′) refl)
 
 pub alike-refused : {A : Type 0} {K : Kind A} {s s′ specs lens : List ℕ} {position : ℕ} {e e′ : Edited A} (out : List ℕ)
-    → Alike K s s′ specs lens position e e′ → (answered e .number ≡ 0 → ⊥) → outLeft e out ≡ outLeft e′ out
+    → Alike K s s′ specs lens position e e′ → (answered K e .number ≡ 0 → ⊥) → outLeft e out ≡ outLeft e′ out
 alike-refused out (both-stop number place) h = refl
 alike-refused out (both-late number place old xs) h = refl
 alike-refused out (both-accepted old xs block block′ a) h = absurd (h refl)

@@ -45,7 +45,7 @@ given-good values present new flags {g} e = go (eqb values present) (eqb new (le
     go true false f x y w q = let z : _≡_ {A = ℕ} 0 1 = cc in absurd (omega arith)
     go false b f x y w q = let z : _≡_ {A = ℕ} 0 1 = cc in absurd (omega arith)
 
-list-length : {A : Type 0} (z : A) (new : List A) (flags : List ℕ) → length flags ≡ length new → length new ≡ length (slotList new flags)
+pub list-length : {A : Type 0} (z : A) (new : List A) (flags : List ℕ) → length flags ≡ length new → length new ≡ length (slotList new flags)
 list-length z new flags h = sym (held-length z new flags h) ∙ length-map (slotList new flags) (slotIn z)
 
 module _ {A : Type 0} (K : Kind (Option A)) (T : List ℕ → Trace (Reading A)) (same : (c : List ℕ) → K .reads c ≡ values (T c)) (z : A)
@@ -158,7 +158,7 @@ module _ {A : Type 0} (K : Kind (Option A)) (z : A) (s : List ℕ) (position sta
   optional-stopped {number} {place} e a =
       let q = plan-stops K counts s position start end G (slotList new flags) (length new) readings (length v) (length out) e in
       record {
-        answer = a ∙ ap answered (sym q);
+        answer = a ∙ ap (answered K) (sym q);
         values = ap (λ (x : Edited (Option A)). slotsLeft z (map (slotIn z)) x v) (sym q);
         presence = ap (λ (x : Edited (Option A)). slotsLeft 0 (map flagIn) x p) (sym q);
         output = ap (λ (x : Edited (Option A)). outLeft x out) (sym q);

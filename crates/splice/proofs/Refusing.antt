@@ -16,8 +16,8 @@ module _ {A : Type 0} (K : Kind A) (number place old : ℕ) (xs : List A) where
       go true = s
       go false = l
 
-  pub refuses-answer : answered (refuses K number place old xs) ≡ refusal number place
-  refuses-answer = refuses-by (λ (e : Edited A). answered e ≡ refusal number place) refl refl
+  pub refuses-answer : answered K (refuses K number place old xs) ≡ refusal number place
+  refuses-answer = refuses-by (λ (e : Edited A). answered K e ≡ refusal number place) refl refl
 
   pub refuses-out : (out : List ℕ) → outLeft (refuses K number place old xs) out ≡ out
   refuses-out out = refuses-by (λ (e : Edited A). outLeft e out ≡ out) refl refl

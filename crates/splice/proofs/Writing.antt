@@ -24,7 +24,7 @@ use Rattle.block_frame.specs.Frame.{Framed, shut, room, frontOf, tailOf, framed
 use Rattle.block_frame.specs.declared.Frame.{Frame}
 use Rattle.block_frame.proofs.Blocks.{others-kept, frame-given, frame-refused, frame-is-block, frame-filled}
 use Rattle.splice.specs.Kind.{Kind}
-use Rattle.splice.specs.Edit.{Edited, accepted, refuses, finished, refusal, acceptance, blockIn, blockAnswer, answered, outLeft}
+use Rattle.splice.specs.Edit.{Edited, accepted, refuses, finished, refusal, acceptance, blockIn, blockAnswer, readingsIn, readingsOf, answered, outLeft}
 use Rattle.splice.proofs.Refusing.{refuses-answer, refuses-out}
 use Rattle.splice.specs.Ready.{HasRow, Good, putBehind, finishedAt, Finished}
 use Rattle.splice.specs.declared.Spliced.{Spliced}
@@ -76,22 +76,22 @@ module _ (bytes : List ℕ) (m : ℕ) where
   size-refused (some i) {number} {place} e = let p : i ≡ place = cc in (ap some p, cc)
 
 -- ---- the answer for bytes that were read as a table: refused as the table was, or its rows
-pub block-refused : (b : List ℕ) {o : Opened} → o ≡ opened (parse b) → (o .number ≡ 0 → ⊥) → refusal (o .number) (o .place) ≡ blockAnswer b
+pub block-refused : (k : ℕ) (b : List ℕ) {o : Opened} → o ≡ opened (parse b) → (o .number ≡ 0 → ⊥) → refusal (o .number) (o .place) ≡ blockAnswer k b
 unfolding blockAnswer
-block-refused b e h = rw (open-bad b e h)
+block-refused k b e h = rw (open-bad b e h)
 
-pub block-read : (b : List ℕ) {o : Opened} {n : ℕ} → o ≡ opened (parse b) → o .number ≡ 0 → n ≡ length b
-    → record { table = o .table; number = 0; place = 0; len = n } ≡ blockAnswer b
+pub block-read : (k : ℕ) (b : List ℕ) {o : Opened} {n : ℕ} → o ≡ opened (parse b) → o .number ≡ 0 → n ≡ length b
+    → record { table = o .table; number = 0; place = 0; len = n; readings = k } ≡ blockAnswer k b
 unfolding blockAnswer
-block-read b {o} {n} e h l =
-    ap (λ (x : Opened). record { table = x .table; number = 0; place = 0; len = n }) e
-    ∙ ap (λ (k : ℕ). record { table = opened (parse b) .table; number = 0; place = 0; len = k }) l
-    ∙ sym (ap (blockIn b) (open-good b e h .is))
+block-read k b {o} {n} e h l =
+    ap (λ (x : Opened). record { table = x .table; number = 0; place = 0; len = n; readings = k }) e
+    ∙ ap (λ (m : ℕ). record { table = opened (parse b) .table; number = 0; place = 0; len = m; readings = k }) l
+    ∙ sym (ap (blockIn k b) (open-good b e h .is))
 
 -- a block that reads as a table is answered so
-pub block-sound : (b : List ℕ) {specs lens : List ℕ} {next : ℕ} → parse b ≡ tab specs lens next → blockAnswer b ≡ acceptance b
+pub block-sound : (k : ℕ) (b : List ℕ) {specs lens : List ℕ} {next : ℕ} → parse b ≡ tab specs lens next → blockAnswer k b ≡ acceptance k b
 unfolding blockAnswer
-block-sound b e = ap (blockIn b) e
+block-sound k b e = ap (blockIn k b) e
 
 -- ---- the ways out
 module _ {A : Type 0} (K : Kind A) {s : List ℕ} {position : ℕ} (g : HasRow s position) (xs : List A) (out : List ℕ) where
@@ -105,8 +105,9 @@ module _ {A : Type 0} (K : Kind A) {s : List ℕ} {position : ℕ} (g : HasRow s
   unfolding finishedAt
   at-row = rw (g .is)
 
-  by : {E : Edited A} {out′ : List ℕ} {r : Spliced} → finishedAt K s position xs (length out) ≡ E → r ≡ answered E → out′ ≡ outLeft E out → Finished K s position xs out out′ r
-  by {E} e a o = record { answer = a ∙ ap answered (sym e); output = o ∙ ap (λ (z : Edited A). outLeft z out) (sym e) }
+  by : {E : Edited A} {out′ : List ℕ} {r : Spliced} → finishedAt K s position xs (length out) ≡ E → r ≡ answered K E → out′ ≡ outLeft E out
+      → Finished K s position xs out out′ r
+  by {E} e a o = record { answer = a ∙ ap (answered K) (sym e); output = o ∙ ap (λ (z : Edited A). outLeft z out) (sym e) }
 
   pub finish-wide : {i : ℕ} {r : Spliced} → K .wide xs ≡ some i → r ≡ refusal 7 i → Finished K s position xs out out r
   finish-wide {i} e a =
@@ -176,8 +177,10 @@ module _ {A : Type 0} (K : Kind A) {s : List ℕ} {position : ℕ} (g : HasRow s
             let z : _≡_ {A = ℕ} 10 0 = sym (ap (λ (y : Frame). y .number) (frame ∙ ap (frameOf size) q)) ∙ h in
             absurd (omega (arith, z))
 
-    pub finish-done : Room → length s < 2 ^ 64 → length out < 2 ^ 64 → {out′ : List ℕ} {r : Spliced} → out′ ≡ putBehind (f .at) W mid → r ≡ blockAnswer (take (f .len) out′) → Finished K s position xs out out′ r
-    finish-done m short small {out′} {r} w a =
+    pub finish-done : Room → length s < 2 ^ 64 → length out < 2 ^ 64 → {listed : ℕ} → listed ≡ length xs
+        → {out′ : List ℕ} {r : Spliced} → out′ ≡ putBehind (f .at) W mid → r ≡ blockAnswer (readingsIn size listed) (take (f .len) out′)
+        → Finished K s position xs out out′ r
+    finish-done m short small {listed} many {out′} {r} w a =
         let B = blockOf W in
         let reads = others-kept s (g .specs) (g .lens) (g .next) position W short (g .is) (g .there) (omega (arith, m .roomy, small)) .table in
         let q : mid ≡ frameOut size (room head tail) out = made ∙ ap (λ (y : Framed). frameOut size y out) (m .is) in
@@ -186,4 +189,7 @@ module _ {A : Type 0} (K : Kind A) {s : List ℕ} {position : ℕ} (g : HasRow s
         ∙ ap (λ (n : ℕ). take (length head) (frameOut size (room head tail) out) ++ (W ++ drop n (drop (length head) (frameOut size (room head tail) out)))) (sym sizes)
         ∙ frame-filled s (g .specs) (g .lens) (g .next) position size (length out) head tail (g .is) (m .is) W (sym sizes) out refl in
         let t : take (f .len) out′ ≡ B = ap (take (f .len)) o ∙ take-at B (drop (length B) out) (f .len) (sym (m .len-is)) in
-        by (ends ∙ ap (λ (b : Bool). cond b (accepted 0 xs B) (refuses K 10 0 0 xs)) (le-leb (length B) (length out) (m .fits))) (a ∙ ap blockAnswer t ∙ block-sound B reads) o
+        let n = readingsIn size listed in
+        let k : n ≡ readingsOf K xs = ap (λ (i : ℕ). readingsIn i listed) sizes ∙ ap (readingsIn (length W)) many in
+        by (ends ∙ ap (λ (b : Bool). cond b (accepted 0 xs B) (refuses K 10 0 0 xs)) (le-leb (length B) (length out) (m .fits)))
+        (a ∙ ap (blockAnswer n) t ∙ block-sound n B reads ∙ ap (λ (i : ℕ). acceptance i B) k) o

@@ -32,7 +32,7 @@ optionalEdit K s position start end new flags values present room =
 -- the slices v, p and out before it, v′, p′ and out′ after it
 pub record OptionalSpliced {A : Type 0} (K : Kind (Option A)) (nought : A) (s : List ℕ) (position start : ℕ) (end : End) (new : List A) (flags : List ℕ)
     (v v′ : List A) (p p′ out out′ : List ℕ) (r : Spliced) : Type 0 where
-  pub answer : r ≡ answered (optionalEdit K s position start end new flags (length v) (length p) (length out))
+  pub answer : r ≡ answered K (optionalEdit K s position start end new flags (length v) (length p) (length out))
   pub values : v′ ≡ slotsLeft nought (map (slotIn nought)) (optionalEdit K s position start end new flags (length v) (length p) (length out)) v
   pub presence : p′ ≡ slotsLeft 0 (map flagIn) (optionalEdit K s position start end new flags (length v) (length p) (length out)) p
   pub output : out′ ≡ outLeft (optionalEdit K s position start end new flags (length v) (length p) (length out)) out
@@ -45,7 +45,7 @@ abbrev pub itself : List ℕ → List ℕ
 itself xs = xs
 
 pub record BooleanSpliced (K : Kind ℕ) (s : List ℕ) (position start : ℕ) (end : End) (new v v′ out out′ : List ℕ) (r : Spliced) : Type 0 where
-  pub answer : r ≡ answered (booleanEdit K s position start end new (length v) (length out))
+  pub answer : r ≡ answered K (booleanEdit K s position start end new (length v) (length out))
   pub values : v′ ≡ slotsLeft 0 itself (booleanEdit K s position start end new (length v) (length out)) v
   pub output : out′ ≡ outLeft (booleanEdit K s position start end new (length v) (length out)) out
 
@@ -65,7 +65,7 @@ textEdit K s position start end bytes newStarts newLens newFlags starts lens fla
 -- the slices a, l, p and out before it, a′, l′, p′ and out′ after it
 pub record TextSpliced (K : Kind (Option (List ℕ))) (s : List ℕ) (position start : ℕ) (end : End) (bytes newStarts newLens newFlags : List ℕ)
     (a a′ l l′ p p′ out out′ : List ℕ) (r : Spliced) : Type 0 where
-  pub answer : r ≡ answered (textEdit K s position start end bytes newStarts newLens newFlags (length a) (length l) (length p) (length out))
+  pub answer : r ≡ answered K (textEdit K s position start end bytes newStarts newLens newFlags (length a) (length l) (length p) (length out))
   pub starts : a′ ≡ slotsLeft 0 startsIn (textEdit K s position start end bytes newStarts newLens newFlags (length a) (length l) (length p) (length out)) a
   pub lens : l′ ≡ slotsLeft 0 (map lengthIn) (textEdit K s position start end bytes newStarts newLens newFlags (length a) (length l) (length p) (length out)) l
   pub presence : p′ ≡ slotsLeft 0 (map flagIn) (textEdit K s position start end bytes newStarts newLens newFlags (length a) (length l) (length p) (length out)) p

@@ -117,25 +117,34 @@ module _ {A : Type 0} (K : Kind A) where
   unfoldable pub edited : List ℕ → ℕ → ℕ → End → Answer → List A → ℕ → ℕ → Edited A
   edited s position start end given new slots room = editIn s position start end given new slots room (parse s)
 
--- what is answered: the new block's length and its table, as anyone reads it; or the refusal with a table of no rows
+-- what is answered: the new block's length, its table, as anyone reads it, and the new column's readings; or the refusal with a table of no rows
 abbrev pub refusal : ℕ → ℕ → Spliced
-refusal number place = record { table = noTable; number = number; place = place; len = 0 }
+refusal number place = record { table = noTable; number = number; place = place; len = 0; readings = 0 }
 
-abbrev pub acceptance : List ℕ → Spliced
-acceptance block = record { table = opened (parse block) .table; number = 0; place = 0; len = length block }
+abbrev pub acceptance : ℕ → List ℕ → Spliced
+acceptance readings block =
+    record { table = opened (parse block) .table; number = 0; place = 0; len = length block; readings = readings }
 
 -- the same of any bytes: where they are no block, the table's refusal
-abbrev pub blockIn : List ℕ → Tab → Spliced
-blockIn block (tab specs lens next) = acceptance block
-blockIn block (faulty number place) = refusal number place
+abbrev pub blockIn : ℕ → List ℕ → Tab → Spliced
+blockIn readings block (tab specs lens next) = acceptance readings block
+blockIn readings block (faulty number place) = refusal number place
 
-unfoldable pub blockAnswer : List ℕ → Spliced
-blockAnswer block = blockIn block (parse block)
+unfoldable pub blockAnswer : ℕ → List ℕ → Spliced
+blockAnswer readings block = blockIn readings block (parse block)
 
-abbrev pub answered : {A : Type 0} → Edited A → Spliced
-answered (stop number place) = refusal number place
-answered (late number place old xs) = refusal number place
-answered (accepted old xs block) = acceptance block
+-- how many readings a column of so many bytes has that was written for a list of so many. 02, [6]: "the count its new bytes read as, so an
+-- all-absent result stores 0"; that they do read as so many is proved (`counted_table`, proofs/Truth.antt)
+unfoldable pub readingsIn : ℕ → ℕ → ℕ
+readingsIn size listed = cond (eqb size 0) 0 listed
+
+abbrev pub readingsOf : {A : Type 0} → Kind A → List A → ℕ
+readingsOf K xs = readingsIn (length (K .writes xs)) (length xs)
+
+abbrev pub answered : {A : Type 0} → Kind A → Edited A → Spliced
+answered K (stop number place) = refusal number place
+answered K (late number place old xs) = refusal number place
+answered K (accepted old xs block) = acceptance (readingsOf K xs) block
 
 -- what is left behind: a slot slice that holds f of the list (z where nothing is any more), and the output
 abbrev pub slotsLeft : {A B : Type 0} → B → (List A → List B) → Edited A → List B → List B

@@ -87,5 +87,5 @@ unfoldable pub finishedAt : {A : Type 0} → Kind A → List ℕ → ℕ → Lis
 finishedAt K s position xs room = finishedIn K s position xs room (parse s)
 
 pub record Finished {A : Type 0} (K : Kind A) (s : List ℕ) (position : ℕ) (xs : List A) (out out′ : List ℕ) (r : Spliced) : Type 0 where
-  pub answer : r ≡ answered (finishedAt K s position xs (length out))
+  pub answer : r ≡ answered K (finishedAt K s position xs (length out))
   pub output : out′ ≡ outLeft (finishedAt K s position xs (length out)) out

@@ -7,7 +7,7 @@ ghost use lib.Dec.{leb};
 ghost use lib.ListN.{length, take};
 ghost use Rattle.encoding.specs.Cases.{answerOf};
 ghost use Rattle.encoding.specs.Limit.{limit};
-ghost use Rattle.splice.specs.Edit.{endIn, below, serves, givenOptional, givenText, refusal, blockAnswer};
+ghost use Rattle.splice.specs.Edit.{endIn, below, serves, givenOptional, givenText, refusal, readingsIn, blockAnswer};
 ghost use Rattle.splice.specs.Steps.{rowFor, countAs, resultJudged, onResult, columnPlanned, planOf, planFor};
 use column_specification::ColumnSpec;
 use encoding::Answer;
@@ -17,12 +17,13 @@ use raw_column::read_table;
 
 mod lent;
 
-// The new block's table and length; or a refusal's number and place, and a table of no rows. The number is 0 where there is none.
-#[repr(C)]
+// The new block's table and length, and how many readings its new column has; or a refusal's number and place, and a table of no rows. The number
+// is 0 where there is none.
 pub struct Spliced {
     pub number: u8,
     pub place: usize,
     pub len: usize,
+    pub readings: usize,
     pub table: Table,
 }
 
@@ -322,13 +323,25 @@ pub fn refused(number: u8, place: usize) -> Spliced
         number: number,
         place: place,
         len: 0,
+        readings: 0,
         table: t,
     }
 }
 
-// The answer for a block of `len` bytes at the front of `out`: its table and length, or the table's own refusal.
-pub fn block_answer(out: &[u8], len: usize) -> Spliced
-    ensures { λ r. ⌜ r ≡ blockAnswer (take len (now (out .entry))) ⌝ }
+// How many readings a column of so many bytes has that was written for a list of so many: none where nothing was written.
+fn readings_in(size: usize, listed: usize) -> usize
+    ensures { λ r. ⌜ r ≡ readingsIn size listed ⌝ }
+{
+    if size == 0 {
+        return 0;
+    }
+    listed
+}
+
+// The answer for a block of `len` bytes at the front of `out`, whose new column has `size` bytes, written for a list of so many readings: its table
+// and length, or the table's own refusal.
+pub fn block_answer(out: &[u8], len: usize, size: usize, listed: usize) -> Spliced
+    ensures { λ r. ⌜ r ≡ blockAnswer (readingsIn size listed) (take len (now (out .entry))) ⌝ }
 {
     let n = if len < out.len() { len } else { out.len() };
     let o = read_table(&out[..n]);
@@ -340,6 +353,7 @@ pub fn block_answer(out: &[u8], len: usize) -> Spliced
         number: 0,
         place: 0,
         len: n,
+        readings: readings_in(size, listed),
         table: t,
     }
 }

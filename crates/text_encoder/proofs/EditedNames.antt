@@ -130,7 +130,7 @@ module _ {s : List ℕ} {position start : ℕ} {end : End} {at till old len : �
     names-stopped h q =
         let e = is-stopped (length out) h in
         record {
-          answer = q ∙ ap answered (sym e);
+          answer = q ∙ ap (answered text) (sym e);
           starts = ap (λ (x : Edited (Option (List ℕ))). slotsLeft 0 startsIn x a) (sym e);
           lens = ap (λ (x : Edited (Option (List ℕ))). slotsLeft 0 (map lengthIn) x l) (sym e);
           presence = ap (λ (x : Edited (Option (List ℕ))). slotsLeft 0 (map flagIn) x p) (sym e);
@@ -150,7 +150,7 @@ module _ {s : List ℕ} {position start : ℕ} {end : End} {at till old len : �
         go : (t : Bool) → leb (length B) (length out) ≡ t → TextSpliced text s position start end bytes newStarts newLens newFlags a a l l p p out mid r
         go true h =
             let e = is-accepted (length out) (leb-true (length B) (length out) h) in
-            absurd (n (ap (λ (x : Spliced). x .number) (edit-answer text new many R given F ∙ ap answered e)))
+            absurd (n (ap (λ (x : Spliced). x .number) (edit-answer text new many R given F ∙ ap (answered text) e)))
         go false h =
             let e = is-stopped (length out) (leb-false (length B) (length out) h) in
             record {
@@ -219,7 +219,7 @@ module _ (s : List ℕ) (position start : ℕ) (end : End) (bytes newStarts newL
   names-planned {number} {place} e q =
       let k = plan-stops text text-counts s position start end G (nameList bytes newStarts newLens newFlags) (length newStarts) readings (length a) (length out) e in
       record {
-        answer = q ∙ ap answered (sym k);
+        answer = q ∙ ap (answered text) (sym k);
         starts = ap (λ (x : Edited (Option (List ℕ))). slotsLeft 0 startsIn x a) (sym k);
         lens = ap (λ (x : Edited (Option (List ℕ))). slotsLeft 0 (map lengthIn) x l) (sym k);
         presence = ap (λ (x : Edited (Option (List ℕ))). slotsLeft 0 (map flagIn) x p) (sym k);

@@ -92,9 +92,9 @@ module _ (s : List ℕ) (position start : ℕ) (end : End) (bytes newStarts newL
   abbrev judged : Answer
   judged = givenText (length a) (length l) (length p) bytes newStarts newLens newFlags
 
-  took : Accepted edit out out′ r
+  took : Accepted text edit out out′ r
   took =
-      is-accepted edit out out′ r
+      is-accepted text edit out out′ r
       (edited-some text text-numbered start end new (length a) (length out) s position judged
       (text-some (length a) (length l) (length p) bytes newStarts newLens newFlags))
       (call .answer) (call .output) accepts

@@ -191,7 +191,7 @@ fn put_block_text(
         lens,
         present,
     );
-    splice::block_answer(out, frame.len)
+    splice::block_answer(out, frame.len, size, found.len)
 }
 
 // An edit that is ready.

@@ -2,8 +2,9 @@
 //! the order of the checks, the refusals that are not of a table or a column, what is left in the slots, and the new block.
 
 use super::columns::{Encoding, Slices};
+use super::counts::{after_edit, Kept, Lent};
 use super::tables::{self, Fault};
-use super::Record;
+use super::{List, Record};
 use crate::{specifications, Refusal, TOO_MANY};
 
 /// A reading of any kind of column, by its bits; a boolean is always present.
@@ -30,6 +31,8 @@ pub struct Served {
 #[derive(Clone)]
 pub struct Edit<N = Slices> {
     pub block: Vec<u8>,
+    /// none: a call whose record has no table
+    pub lent: Option<Lent>,
     pub position: u64,
     pub start: u64,
     /// none: to the end of the list, by the call that takes only a start
@@ -48,6 +51,7 @@ impl<N> Edit<N> {
     ) -> Edit<N> {
         Edit {
             block,
+            lent: None,
             position,
             start,
             end,
@@ -55,6 +59,16 @@ impl<N> Edit<N> {
             slots: vec![],
             out: vec![],
         }
+    }
+
+    /// Table faults, 25 and 16; or the row, and where its column begins.
+    pub fn row(&self) -> Result<(tables::Row, usize), Fault> {
+        let (_, rows) = tables::open(&self.block)?;
+        if self.lent.as_ref().is_some_and(|lent| lent.rows != rows) {
+            return Err((25, Some(0)));
+        }
+        let (_, row, at) = tables::row_at(&self.block, self.position)?;
+        Ok((row, at))
     }
 }
 
@@ -103,7 +117,7 @@ fn judge_given(edit: &Edit) -> Result<(), Fault> {
 
 /// The checks up to 9, in document 01's order.
 pub fn ready(served: &Served, edit: &Edit) -> Result<Ready, Fault> {
-    let (_, row, at) = tables::row_at(&edit.block, edit.position)?;
+    let (row, at) = edit.row()?;
     if !served.types.contains(&specifications::col_type(row.0)) {
         return Err((17, Some(0)));
     }
@@ -161,10 +175,10 @@ fn finish(served: &Served, edit: &mut Edit, ready: &Ready) -> Result<usize, Faul
     Ok(length)
 }
 
-/// The record of an edit, where its table and column are among the records and a line holds it.
-pub fn record(out: &mut String, served: &Served, mut edit: Edit) {
+/// The record of an edit, where its table and column are among the records and a line holds it; and what an accepted one gives.
+pub fn record(out: &mut String, served: &Served, mut edit: Edit) -> Option<Kept> {
     if !tables::is_ordered_alike(&edit.block) {
-        return;
+        return None;
     }
     let record = called(served.call, &edit)
         .lists(&edit.new)
@@ -174,15 +188,18 @@ pub fn record(out: &mut String, served: &Served, mut edit: Edit) {
         fill(served, &mut edit, &ready);
         finish(served, &mut edit, &ready)
     });
-    answered(out, record, &edit, finished);
+    answered(out, record, &edit, finished)
 }
 
-/// The call, its block and its range.
+/// The call, its block, the table where one is lent, and its range.
 pub fn called<N>(call: &str, edit: &Edit<N>) -> Record {
-    let record = Record::call(call)
-        .bytes(&edit.block)
-        .number(edit.position)
-        .number(edit.start);
+    let record = match &edit.lent {
+        None => Record::call(call).bytes(&edit.block),
+        Some(lent) => Record::call(&format!("lent_{call}"))
+            .bytes(&edit.block)
+            .field(List(&lent.numbers())),
+    };
+    let record = record.number(edit.position).number(edit.start);
     match edit.end {
         Some(end) => record.number(end),
         None => record.field("end"),
@@ -195,21 +212,33 @@ pub fn answered<N>(
     record: Record,
     edit: &Edit<N>,
     finished: Result<usize, Fault>,
-) {
-    let record = match finished {
-        Err((TOO_MANY, _)) => return,
-        Err(fault) => tables::refused(record, fault)
-            .number(0)
-            .lists(&[vec![], vec![], vec![]]),
+) -> Option<Kept> {
+    // the crate reads the new table
+    let kept = match finished {
+        Err((TOO_MANY, _)) => return None,
+        Err(_) => None,
         Ok(length) => {
-            // the crate reads the new table
-            let (_, rows) = tables::open(&edit.out[..length]).unwrap();
-            let rows = tables::row_lists(&rows);
-            record.accepted().number(length as u64).lists(&rows)
+            let block = edit.out[..length].to_vec();
+            Some(after_edit(block, edit.lent.as_ref(), edit.position)?)
         }
     };
+    let record = match finished {
+        Err(fault) => tables::refused(record, fault).number(0),
+        Ok(length) => record.accepted().number(length as u64),
+    };
+    // a refusal gives back the table that was lent; without one its record has no rows
+    let record = match (&edit.lent, &kept) {
+        (Some(lent), kept) => {
+            let table = kept.as_ref().map_or(lent, |kept| &kept.table);
+            record.field(List(&table.numbers()))
+        }
+        (None, Some(kept)) => record.lists(&tables::row_lists(&kept.table.rows)),
+        (None, None) => record.lists(&[vec![], vec![], vec![]]),
+    };
     let record = record.lists(&edit.slots).bytes(&edit.out);
-    if record.0.len() <= 65_536 {
-        record.end(out);
+    if record.0.len() > 65_536 {
+        return None;
     }
+    record.end(out);
+    kept
 }

@@ -10,8 +10,8 @@ use crate::random::Random;
 use crate::{boolean, delta, rle, table};
 
 /// The columns of a call, and their lists.
-struct Column {
-    served: Served,
+pub struct Column {
+    pub served: Served,
     /// the readings of the lists of few, and of the new ones
     few: &'static [Reading],
     few_new: &'static [Reading],
@@ -22,7 +22,7 @@ struct Column {
     wasteful: fn(&mut Random) -> Vec<u8>,
 }
 
-const INTEGER: Column = Column {
+pub const INTEGER: Column = Column {
     served: Served {
         call: "splice_integer",
         types: &[1, 2],
@@ -38,7 +38,7 @@ const INTEGER: Column = Column {
     wasteful: |random| optional::wasteful(&integers::COLUMN, random),
 };
 
-const DELTA: Column = Column {
+pub const DELTA: Column = Column {
     served: Served {
         call: "splice_delta",
         types: &[3],
@@ -58,7 +58,7 @@ const DELTA: Column = Column {
     wasteful: |random| optional::wasteful(&deltas::COLUMN, random),
 };
 
-const BOOLEAN: Column = Column {
+pub const BOOLEAN: Column = Column {
     served: Served {
         call: "splice_boolean",
         types: &[4],
@@ -77,7 +77,7 @@ const BOOLEAN: Column = Column {
     wasteful: booleans::wasteful,
 };
 
-const COLUMNS: [&Column; 3] = [&INTEGER, &DELTA, &BOOLEAN];
+pub const COLUMNS: [&Column; 3] = [&INTEGER, &DELTA, &BOOLEAN];
 
 fn bools(list: &[Reading]) -> Vec<bool> {
     list.iter().map(|&reading| reading == Some(1)).collect()
@@ -92,7 +92,7 @@ fn column_of(column: &Column, list: &[Reading]) -> Vec<u8> {
 }
 
 /// The block of these specifications and columns.
-fn block(columns: &[(u32, Vec<u8>)]) -> Vec<u8> {
+pub fn block(columns: &[(u32, Vec<u8>)]) -> Vec<u8> {
     let rows: Vec<(u32, usize)> = columns.iter().map(|(spec, c)| (*spec, c.len())).collect();
     let data = columns.iter().flat_map(|(_, column)| column);
     [table::write(&rows), data.copied().collect()].concat()
@@ -260,7 +260,7 @@ pub fn chance_block(types: &[u8], bytes: Vec<u8>, random: &mut Random) -> (Vec<u
 }
 
 /// A column: the crate's of a list, or a wasteful one; cut or changed, where it is to be faulty.
-fn chance_column(column: &Column, is_faulty: bool, random: &mut Random) -> Vec<u8> {
+pub fn chance_column(column: &Column, is_faulty: bool, random: &mut Random) -> Vec<u8> {
     let mut bytes = match random.below(3) {
         0 => (column.wasteful)(random),
         _ => column_of(column, &(column.chance)(random)),
@@ -282,7 +282,7 @@ pub fn spoil_bytes(bytes: &mut Vec<u8>, random: &mut Random) {
 }
 
 /// New readings: none, few, or as many as a list has.
-fn chance_new(column: &Column, random: &mut Random) -> Slices {
+pub fn chance_new(column: &Column, random: &mut Random) -> Slices {
     let mut list = (column.chance)(random);
     let most = random.pick(&[0, 1, 1, 2, 3, 400]);
     list.truncate(most);
@@ -351,17 +351,22 @@ fn chance(out: &mut String, column: &Column, random: &mut Random) {
     let (start, end) = chance_range(length, random);
     let place = chance_block(served.types, bytes, random);
     let mut edit = Edit::new(place, (start, end), chance_new(column, random));
+    ready_by_chance(column, &mut edit, length, random);
+    record(out, served, edit);
+}
+
+/// Faults by chance, of the block and of the call, and slots and an output.
+pub fn ready_by_chance(column: &Column, edit: &mut Edit, length: u64, random: &mut Random) {
     if random.below(16) == 0 {
         damage(&mut edit.block, random);
     }
     while random.below(5) == 0 {
-        spoil(column, &mut edit, length, random);
+        spoil(column, edit, length, random);
     }
     let slots_short = random.pick(&[0, 0, 0, 0, 0, 0, 0, 0, 1, 2]);
     let out_short = random.pick(&[0, 0, 0, 0, 0, 0, 0, 0, 1, 2]);
-    lend(served, &mut edit, slots_short, out_short, random);
-    disturb(&mut edit, random);
-    record(out, served, edit);
+    lend(&column.served, edit, slots_short, out_short, random);
+    disturb(edit, random);
 }
 
 /// Anything in slots and output before the call, and at times slices of unequal length.

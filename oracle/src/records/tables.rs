@@ -6,7 +6,8 @@ use super::columns::all_lists;
 use super::{comment, Options, Record};
 use crate::numbers::{leb128_u32, leb128_u64, write_u64};
 use crate::random::Random;
-use crate::table::{self, Row};
+use crate::table;
+pub use crate::table::Row;
 use crate::{specifications, Refusal};
 
 /// Specifications that meet: two of one key but for the compressed bit, and two whose low bytes are not in their order.

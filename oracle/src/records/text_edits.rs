@@ -3,6 +3,7 @@
 //! new column, each held to the crate's string.
 
 use super::columns::{all_lists, Slices};
+use super::counts::Kept;
 use super::edited::{self, answered, called};
 use super::edits::{chance_block, chance_range, misplace, more_or_fewer, placed, spoil_bytes};
 use super::tables::{self, damage, Fault};
@@ -14,7 +15,7 @@ use crate::text::{self, Name};
 use crate::{specifications, TOO_MANY};
 
 /// What the call is given.
-type Edit = edited::Edit<Names>;
+pub type Edit = edited::Edit<Names>;
 
 /// A list in a record has at most so many names.
 const MOST: usize = 256;
@@ -29,7 +30,7 @@ struct Done {
 /// The checks up to 9, in order.
 fn ready(edit: &Edit) -> Result<Done, Fault> {
     let by_02 = |(refusal, place)| (refusal, Some(place));
-    let (_, row, at) = tables::row_at(&edit.block, edit.position)?;
+    let (row, at) = edit.row()?;
     if specifications::col_type(row.0) != 5 {
         return Err((17, Some(0)));
     }
@@ -81,11 +82,11 @@ fn finish(edit: &mut Edit, done: Done) -> Result<usize, Fault> {
     Ok(length)
 }
 
-/// The record of an edit, where its table and column are among the records and a line holds it.
-fn record(out: &mut String, mut edit: Edit) {
+/// The record of an edit, where its table and column are among the records and a line holds it; and what an accepted one gives.
+pub fn record(out: &mut String, mut edit: Edit) -> Option<Kept> {
     let lists = edit.slots.iter().chain(&edit.new.slices);
     if lists.map(Vec::len).any(|n| n > MOST) || !tables::is_ordered_alike(&edit.block) {
-        return;
+        return None;
     }
     let record = called("splice_text", &edit)
         .bytes(&edit.new.bytes)
@@ -93,7 +94,7 @@ fn record(out: &mut String, mut edit: Edit) {
         .lists(&edit.slots)
         .bytes(&edit.out);
     let finished = ready(&edit).and_then(|done| finish(&mut edit, done));
-    answered(out, record, &edit, finished);
+    answered(out, record, &edit, finished)
 }
 
 /// Lends slots and an output: just enough, more, or too few.
@@ -193,7 +194,8 @@ fn around(out: &mut String, random: &mut Random) {
     }
 }
 
-fn by_chance(out: &mut String, random: &mut Random) {
+/// A column of names: the crate's of a list, or a wasteful one, and one in twelve cut or changed.
+pub fn column_by_chance(random: &mut Random) -> Vec<u8> {
     let length = random.below(14);
     let mut bytes = match random.below(3) {
         0 => wasteful(random),
@@ -202,26 +204,40 @@ fn by_chance(out: &mut String, random: &mut Random) {
     if random.below(12) == 0 && !bytes.is_empty() {
         spoil_bytes(&mut bytes, random);
     }
+    bytes
+}
+
+fn by_chance(out: &mut String, random: &mut Random) {
+    let bytes = column_by_chance(random);
     let length = match KIND.decode(&bytes) {
         Some(Ok(list)) => list[0].len() as u64,
         _ => 3,
     };
     let range = chance_range(length, random);
     let place = chance_block(&[5], bytes, random);
+    let mut edit = Edit::new(place, range, new_by_chance(random));
+    ready_by_chance(&mut edit, length, random);
+    record(out, edit);
+}
+
+/// New names: none or few.
+pub fn new_by_chance(random: &mut Random) -> Names {
     let new = random.pick(&[0, 1, 1, 2, 3, 8]);
-    let new = laid(&chance(new, random), random);
-    let mut edit = Edit::new(place, range, new);
+    laid(&chance(new, random), random)
+}
+
+/// Faults by chance, of the block and of the call, and slots and an output.
+pub fn ready_by_chance(edit: &mut Edit, length: u64, random: &mut Random) {
     if random.below(16) == 0 {
         damage(&mut edit.block, random);
     }
     while random.below(5) == 0 {
-        spoil_call(&mut edit, length, random);
+        spoil_call(edit, length, random);
     }
     let slots_short = random.pick(&[0, 0, 0, 0, 0, 0, 0, 0, 1, 2]);
     let out_short = random.pick(&[0, 0, 0, 0, 0, 0, 0, 0, 1, 2]);
-    lend(&mut edit, slots_short, out_short, random);
-    disturb(&mut edit, random);
-    record(out, edit);
+    lend(edit, slots_short, out_short, random);
+    disturb(edit, random);
 }
 
 /// One fault of the call, or a change that is none.

@@ -46,7 +46,7 @@ returns-2 c =
     let put-frame = c .before .before .before .before .before .before .before .before .before .before .put-frame in
     let a = s .args in
     let m = finish-room boolean (s .pre .0) (now (a .values)) (now (a .out)) refl (s .pre .1 .1) (put-frame .ensures .0) (put-frame .ensures .1) (if1 .left) in
-    finish-done boolean (s .pre .0) (now (a .values)) (now (a .out)) refl (s .pre .1 .1) (put-frame .ensures .0) (put-frame .ensures .1) m (omega (arith, s .good)) (omega (arith, s .good)) (fill-u8 .ensures) (c .block-answer .ensures)
+    finish-done boolean (s .pre .0) (now (a .values)) (now (a .out)) refl (s .pre .1 .1) (put-frame .ensures .0) (put-frame .ensures .1) m (omega (arith, s .good)) (omega (arith, s .good)) refl (fill-u8 .ensures) (c .block-answer .ensures)
 
 pub put-block-u8-spec : {M : Type 1} → statement M
 put-block-u8-spec =

@@ -1,8 +1,10 @@
 -- `delta_range::put_block_i64` meets its contract: refused, or the column put into the frame. Assumes nothing.
 use native.Mathlib.Omega.{arith}
+use lib.IntN.{pos}
 use denote.Ref.{now}
 use Rattle.encoding.specs.Given.{slotList}
 use Rattle.splice.specs.Kinds.{delta}
+use Rattle.splice.proofs.OptionalEdits.{list-length}
 use Rattle.splice.proofs.Writing.{finish-short, finish-room, finish-done}
 use borrow.Author.Needs.{needs}
 use Rattle.delta_range.proofs.put_block_i64.Statement.{statement}
@@ -49,7 +51,8 @@ returns-2 c =
     let a = s .args in
     let xs = slotList (now (a .values)) (now (a .present)) in
     let m = finish-room delta (s .pre .0) xs (now (a .out)) (s .pre .1 .1 .1) (s .pre .1 .1 .0) (put-frame .ensures .0) (put-frame .ensures .1) (if1 .left) in
-    finish-done delta (s .pre .0) xs (now (a .out)) (s .pre .1 .1 .1) (s .pre .1 .1 .0) (put-frame .ensures .0) (put-frame .ensures .1) m (omega (arith, s .good)) (omega (arith, s .good)) (fill-i64 .ensures) (c .block-answer .ensures)
+    finish-done delta (s .pre .0) xs (now (a .out)) (s .pre .1 .1 .1) (s .pre .1 .1 .0) (put-frame .ensures .0) (put-frame .ensures .1) m (omega (arith, s .good)) (omega (arith, s .good))
+    (list-length (pos 0) (now (a .values)) (now (a .present)) (s .pre .1 .0 .even)) (fill-i64 .ensures) (c .block-answer .ensures)
 
 pub put-block-i64-spec : {M : Type 1} → statement M
 put-block-i64-spec =

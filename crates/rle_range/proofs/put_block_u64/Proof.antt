@@ -3,6 +3,7 @@ use native.Mathlib.Omega.{arith}
 use denote.Ref.{now}
 use Rattle.encoding.specs.Given.{slotList}
 use Rattle.splice.specs.Kinds.{integer}
+use Rattle.splice.proofs.OptionalEdits.{list-length}
 use Rattle.splice.proofs.Writing.{finish-short, finish-room, finish-done}
 use borrow.Author.Needs.{needs}
 use Rattle.rle_range.proofs.put_block_u64.Statement.{statement}
@@ -49,7 +50,8 @@ returns-2 c =
     let a = s .args in
     let xs = slotList (now (a .values)) (now (a .present)) in
     let m = finish-room integer (s .pre .0) xs (now (a .out)) (s .pre .1 .1 .1) (s .pre .1 .1 .0) (put-frame .ensures .0) (put-frame .ensures .1) (if1 .left) in
-    finish-done integer (s .pre .0) xs (now (a .out)) (s .pre .1 .1 .1) (s .pre .1 .1 .0) (put-frame .ensures .0) (put-frame .ensures .1) m (omega (arith, s .good)) (omega (arith, s .good)) (fill-u64 .ensures) (c .block-answer .ensures)
+    finish-done integer (s .pre .0) xs (now (a .out)) (s .pre .1 .1 .1) (s .pre .1 .1 .0) (put-frame .ensures .0) (put-frame .ensures .1) m (omega (arith, s .good)) (omega (arith, s .good))
+    (list-length 0 (now (a .values)) (now (a .present)) (s .pre .1 .0 .even)) (fill-u64 .ensures) (c .block-answer .ensures)
 
 pub put-block-u64-spec : {M : Type 1} → statement M
 put-block-u64-spec =

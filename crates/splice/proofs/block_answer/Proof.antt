@@ -16,13 +16,14 @@ use Rattle.splice.proofs.block_answer.Reads as reads
 use Rattle.splice.proofs.block_answer.Lts as lts
 use Rattle.raw_column.proofs.read_table.Reads as read-table-reads
 use Rattle.splice.proofs.refused.Reads as refused-reads
+use Rattle.splice.proofs.readings_in.Reads as readings-in-reads
 
 -- the part that is read: no longer than the output, and the bytes that were asked for
 record Front (n len : ℕ) (out : List ℕ) : Type 0 where
   within : n ≤ length out
   same : take n out ≡ take len out
 
-front : (c : lts.Joined1 (read-table-reads.Asked, read-table-reads.Learnt, refused-reads.Asked, refused-reads.Learnt) reads.Pre reads.Post)
+front : (c : lts.Joined1 (read-table-reads.Asked, read-table-reads.Learnt, refused-reads.Asked, refused-reads.Learnt, readings-in-reads.Asked, readings-in-reads.Learnt) reads.Pre reads.Post)
     → Front (c .if1 .n) (c .before .before .args .len) (c .before .before .args .out .now)
 front c =
     let out = c .before .before .args .out .now in
@@ -43,16 +44,22 @@ read-table-requires c κs = search needs
 refused-requires : tie.Need-refused-requires
 refused-requires c κs = search needs
 
+readings-in-requires : tie.Need-readings-in-requires
+readings-in-requires c κs = search needs
+
 returns : tie.Need-returns
 returns c =
     let f = front (c .before .before .before .before .before) in
-    c .refused .ensures ∙ block-refused _ (c .before .before .before .read-table .ensures) (c .before .if2 .taken) ∙ ap blockAnswer (f .same)
+    c .refused .ensures ∙ block-refused _ _ (c .before .before .before .read-table .ensures) (c .before .if2 .taken) ∙ ap (blockAnswer _) (f .same)
 
 returns-2 : tie.Need-returns-2
 returns-2 c =
-    let f = front (c .before .before .before .before .before) in
-    let out = now (c .before .before .before .before .before .before .before .args .out) in
-    block-read _ (c .before .before .before .read-table .ensures) (c .before .if2 .left) (sym (length-take-le _ out (f .within))) ∙ ap blockAnswer (f .same)
+    let f = front (c .before .before .before .before .before .before) in
+    let a = c .before .before .before .before .before .before .before .before .args in
+    let out = now (a .out) in
+    block-read _ _ (c .before .before .before .before .read-table .ensures) (c .before .before .if2 .left) (sym (length-take-le _ out (f .within)))
+    ∙ ap (blockAnswer _) (f .same)
+    ∙ ap (λ (k : ℕ). blockAnswer k (take (a .len) out)) (c .readings-in .ensures)
 
 pub block-answer-spec : {M : Type 1} → statement M
-block-answer-spec = tie.close (tie.spec slice-aggregate-read-table read-table-requires refused-requires returns returns-2)
+block-answer-spec = tie.close (tie.spec slice-aggregate-read-table read-table-requires refused-requires returns readings-in-requires returns-2)

@@ -13,7 +13,7 @@ use Rattle.splice.specs.Ready.{putBehind}
 use Rattle.splice.specs.declared.Spliced.{Spliced}
 use Rattle.splice.proofs.Writing.{finish-short, finish-room, finish-done}
 use Rattle.text_encoder.specs.Edits.{newNames, Refillable}
-use Rattle.text_encoder.proofs.EditedNames.{names-spliceable, names-short, names-refillable, names-done}
+use Rattle.text_encoder.proofs.EditedNames.{names-many, names-spliceable, names-short, names-refillable, names-done}
 use Rattle.text_encoder.proofs.Refilling.{put-part, take-bytes, drop-bytes, refilled-of}
 use borrow.Author.Needs.{needs}
 use Rattle.text_encoder.proofs.range.put_block_text.Statement.{statement}
@@ -129,6 +129,7 @@ returns-2 c =
     let mid = c .before .before .before .before .before .before .before .before .before .before .before .before .before .before .before .before .before .before .before .before .before .before .before .put-frame .last .1 .1 .1 .0 in
     let q = put-part f mid W W′ (c .before .before .before .before .before .before .before .before .before .before .before .before .before .before .before .before .put-new .ensures) w h (c .before .before .before .before .before .before .before .before .before .before .before .before .before .before .before .before .before .before .before .before .before .before .before .put-frame .kept .1 .1 .1 .0) (m .roomy) in
     let F = finish-done text (R .located .row) xs o refl (s .pre .1 .1) (c .before .before .before .before .before .before .before .before .before .before .before .before .before .before .before .before .before .before .before .before .before .before .before .put-frame .ensures .0) (c .before .before .before .before .before .before .before .before .before .before .before .before .before .before .before .before .before .before .before .before .before .before .before .put-frame .ensures .1) m (omega (arith, s .good)) (omega (arith, s .good))
+    (sym (names-many (now (a .bytes)) (now (a .new-starts)) (now (a .new-lens)) (now (a .new-present)) (now (a .starts)) (now (a .lens)) (now (a .present)) R (s .pre .1 .0)))
     (c .before .before .before .before .before .before .before .before .before .before .before .before .before .before .before .before .put-new .ensures ∙ ap (λ (x : List ℕ). putBehind f x mid) w) (c .block-answer .ensures) in
     names-done (now (a .bytes)) (now (a .new-starts)) (now (a .new-lens)) (now (a .new-present)) (now (a .starts)) (now (a .lens)) (now (a .present)) R (s .pre .1 .0)
     byte (omega (arith, s .good)) (c .before .before .before .before .before .before .before .before .before .before .before .before .longer .ensures) (m .fits) (refilled-of q (c .before .before .before .before .before .before .before .before .refill-from .ensures)) F

@@ -1,0 +1,4 @@
+pub mod Calls
+pub mod Cases
+pub mod Counts
+pub mod Reached
