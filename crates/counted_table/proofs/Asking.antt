@@ -1,24 +1,23 @@
 -- How counting goes: one law for each way out. Assumes nothing.
 use Prim.Native.Nat.{ℕ, _+_, _-_, _≤_, _<_}
-use mathlib.Core.Path.{_≡_, refl, sym, ap, _∙_}
+use mathlib.Core.Path.{_≡_, sym, ap, _∙_}
 use mathlib.Core.List.{List}
 use mathlib.Core.Option.{Option, none, some}
-use mathlib.Core.Bool.{Bool, true, false, cond}
+use mathlib.Core.Bool.{Bool, true, cond}
 use native.Mathlib.Decide.{decLt}
 use native.Mathlib.Omega.{arith}
-use lib.Dec.{eqb}
-use lib.ListN.{length, take, drop}
+use lib.ListN.{take, drop}
 use borrow.Author.Tests.{eq-eqb, ne-eqb}
 use Rattle.leb128.specs.Answer.{Answer, done, refused}
 use Rattle.column_specification.specs.Specification.{typeOf}
-use Rattle.raw_column.specs.Table.{Tab, faulty, parse}
+use Rattle.raw_column.specs.Table.{Tab, faulty}
 use Rattle.raw_column.specs.Rows.{opened}
 use Rattle.raw_column.specs.declared.Opened.{Opened}
 use Rattle.column_part.specs.Part.{partIn, partAt, bytesOf}
 use Rattle.column_part.specs.declared.Part.{Part}
-use Rattle.counted_table.specs.Counts.{storedAt, lentTab, served, countOf, orCounted, rowCount, countPart, countIn, isCounted, notCounted, countedAs, counted}
+use Rattle.counted_table.specs.Counts.{storedAt, lentTab, served, countOf, orCounted, rowCount}
+use Rattle.counted_table.specs.Counts.{countPart, countIn, isCounted, notCounted, countedAs, counted}
 use Rattle.counted_table.specs.declared.CountedTable.{CountedTable}
-use Rattle.counted_table.specs.declared.CountedColumn.{CountedColumn}
 use Rattle.counted_table.proofs.Storing.{served-yes, served-none, served-beyond}
 use Rattle.counted_table.proofs.Lending.{lent-faulty, lent-whole}
 
@@ -72,13 +71,15 @@ module _ (lent : CountedTable) (s : List ℕ) (position : ℕ) {o : Opened} (e :
       row-is : countPart lent position s p ≡ rowCount t w (take (till - p .start) (drop (p .start) s))
       row-is =
           let k : till - p .start ≡ p .len = omega (arith, ti) in
-          ap (λ (b : Bool). cond b (rowCount (typeOf (p .spec)) (storedAt lent position) (bytesOf s p)) (refused (p .number) (p .place))) (eq-eqb (p .number) 0 y)
+          ap (λ (b : Bool). cond b (rowCount (typeOf (p .spec)) (storedAt lent position) (bytesOf s p)) (refused (p .number) (p .place)))
+          (eq-eqb (p .number) 0 y)
           ∙ ap (λ (x : ℕ). rowCount x (storedAt lent position) (bytesOf s p)) (sym ty)
           ∙ ap (λ (x : Option ℕ). rowCount t x (bytesOf s p)) (sym wh)
           ∙ ap (λ (n : ℕ). rowCount t w (take n (drop (p .start) s))) (sym k)
 
       -- the row's count, or its fault
-      pub count-given : {n : ℕ} → done n ≡ rowCount t w (take (till - p .start) (drop (p .start) s)) → isCounted lent (o .table) position n ≡ counted lent s position
+      pub count-given : {n : ℕ} → done n ≡ rowCount t w (take (till - p .start) (drop (p .start) s))
+          → isCounted lent (o .table) position n ≡ counted lent s position
       count-given {n} h =
           ap (λ (x : Opened). isCounted lent (x .table) position n) e ∙ is-counted (done n) (row-is ∙ sym h)
 

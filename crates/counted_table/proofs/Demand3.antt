@@ -16,7 +16,7 @@ use Rattle.encoding.specs.Given.{slotList}
 use Rattle.encoding.proofs.Faults.{Numbered}
 use Rattle.delta_decoder.proofs.Faults.{delta-numbered}
 use Rattle.text.specs.Given.{nameList}
-use Rattle.raw_column.specs.Table.{Tab, parse}
+use Rattle.raw_column.specs.Table.{parse}
 use Rattle.splice.specs.Kind.{Kind}
 use Rattle.splice.specs.Kinds.{integer, delta, boolean, text}
 use Rattle.splice.specs.Edit.{Edited, givenOptional, givenBoolean, givenText, editIn, edited, answered, slotsLeft, outLeft}
@@ -91,8 +91,8 @@ pub record LentThree (Plain Three : Spliced → Type 0) (position : ℕ) (t : Co
   pub storing : Stores position t (underneath .answer) r
 
 -- two runs whose answers underneath are the same are alike but for the others' counts
-pub two-runs : (position : ℕ) (t t₂ : CountedTable) (a a₂ : Spliced) {r r₂ : CountedSpliced} → a ≡ a₂ → r ≡ splicedBy t position a → r₂ ≡ splicedBy t₂ position a₂
-    → Stores position t a r × Stores position t₂ a r₂
+pub two-runs : (position : ℕ) (t t₂ : CountedTable) (a a₂ : Spliced) {r r₂ : CountedSpliced} → a ≡ a₂
+    → r ≡ splicedBy t position a → r₂ ≡ splicedBy t₂ position a₂ → Stores position t a r × Stores position t₂ a r₂
 two-runs position t t₂ a a₂ e f g = (stores position t a f, stores position t₂ a (g ∙ ap (splicedBy t₂ position) (sym e)))
 
 module _ {A : Type 0} (K : Kind A) (s : List ℕ) (t : CountedTable) (fit : lentTab t s ≡ parse s) where
@@ -111,7 +111,8 @@ module _ {A : Type 0} (K : Kind (Option A)) (numbered : (c : List ℕ) → Numbe
   optional-underneath =
       let given = givenOptional (length v) (length p) (length new) flags in
       let k = plain-is K s t fit position start end given (slotList new flags) (length v) (length out) in
-      let ok = edited-some K numbered start end (slotList new flags) (length v) (length out) s position given (optional-some (length v) (length p) (length new) flags) in
+      let ok = edited-some K numbered start end (slotList new flags) (length v) (length out) s position given
+      (optional-some (length v) (length p) (length new) flags) in
       record {
         answer = answered K (optionalEdit K s position start end new flags (length v) (length p) (length out));
         promised =
@@ -125,7 +126,8 @@ module _ {A : Type 0} (K : Kind (Option A)) (numbered : (c : List ℕ) → Numbe
       }
 
   pub optional-lent-3 : Lent s → Lent out → LentThree (OptionalSpliced K nought s position start end new flags v v′ p p′ out out′)
-      (DemandThree K position start end optionalSays optionalJudged (OptionalCall K nought position start end) (new, flags) s (v, p) (v′, p′) out out′) position t r
+      (DemandThree K position start end optionalSays optionalJudged (OptionalCall K nought position start end) (new, flags)
+      s (v, p) (v′, p′) out out′) position t r
   optional-lent-3 l m =
       let u = optional-underneath in
       record {
@@ -201,11 +203,13 @@ module _ (s : List ℕ) (t : CountedTable) (fit : lentTab t s ≡ parse s) (posi
 pub integer-lent-3 : (s : List ℕ) (t : CountedTable) → lentTab t s ≡ parse s → (position start : ℕ) (end : End) (new flags v v′ p p′ out out′ : List ℕ)
     (r : CountedSpliced) → OptionalCounted integer 0 s t position start end new flags v v′ p p′ out out′ r → Lent s → Lent out
     → LentThree (OptionalSpliced integer 0 s position start end new flags v v′ p p′ out out′)
-    (DemandThree integer position start end optionalSays optionalJudged (OptionalCall integer 0 position start end) (new, flags) s (v, p) (v′, p′) out out′) position t r
+    (DemandThree integer position start end optionalSays optionalJudged (OptionalCall integer 0 position start end) (new, flags)
+    s (v, p) (v′, p′) out out′) position t r
 integer-lent-3 = optional-lent-3 integer integer-numbered 0
 
 pub delta-lent-3 : (s : List ℕ) (t : CountedTable) → lentTab t s ≡ parse s → (position start : ℕ) (end : End) (new : List ℤ) (flags : List ℕ) (v v′ : List ℤ)
     (p p′ out out′ : List ℕ) (r : CountedSpliced) → OptionalCounted delta (pos 0) s t position start end new flags v v′ p p′ out out′ r → Lent s → Lent out
     → LentThree (OptionalSpliced delta (pos 0) s position start end new flags v v′ p p′ out out′)
-    (DemandThree delta position start end optionalSays optionalJudged (OptionalCall delta (pos 0) position start end) (new, flags) s (v, p) (v′, p′) out out′) position t r
+    (DemandThree delta position start end optionalSays optionalJudged (OptionalCall delta (pos 0) position start end) (new, flags)
+    s (v, p) (v′, p′) out out′) position t r
 delta-lent-3 = optional-lent-3 delta delta-numbered (pos 0)

@@ -1,24 +1,21 @@
 -- Each call keeps what is stored true: opening, counting, and an edit over the kind of column. Assumes nothing.
-use Prim.Native.Nat.{ℕ, zero, suc, _+_, _-_, _≤_, _<_, _^_}
+use Prim.Native.Nat.{ℕ, zero, suc, _+_, _-_, _≤_, _<_}
 use mathlib.Core.Path.{_≡_, refl, sym, ap, _∙_, subst}
-use mathlib.Core.List.{List, [], _∷_, _++_, map}
+use mathlib.Core.List.{List, _++_}
 use mathlib.Core.Option.{Option, none, some}
 use mathlib.Core.Bool.{Bool, true, false, cond, _&&_}
 use mathlib.Core.Logic.{_⊎_, inl, inr, ⊎-elim}
 use native.Mathlib.Decide.{decLt}
 use native.Mathlib.Omega.{arith}
 use lib.Dec.{eqb, ltb}
-use lib.IntN.{ℤ, pos}
-use lib.ListN.{length, getD, set, take, drop, replicate, length-append, length-take, length-replicate, length-set, List·getD-append, List·getD-eq-default}
-use lib.Seq.{getD-set-same, getD-set-other, getD-take, take-at, take-all, getD-append-add}
-use borrow.Author.Tests.{eq-eqb, ne-eqb, eqb-true, ltb-true, lt-ltb}
+use lib.ListN.{length, getD, set, take, drop, replicate, length-take, List·getD-append, List·getD-eq-default}
+use lib.Seq.{getD-set-same, getD-set-other, getD-take, take-at, getD-append-add}
+use borrow.Author.Tests.{eq-eqb, eqb-true, ltb-true, lt-ltb}
 use Rattle.leb128.specs.Answer.{Answer, done, refused}
 use Rattle.column_specification.specs.Specification.{typeOf}
 use Rattle.encoding.specs.Walk.{outcome}
-use Rattle.encoding.specs.Given.{slotList, badFlag}
 use Rattle.encoding.specs.Limit.{limit}
 use Rattle.encoding.proofs.Faults.{Numbered}
-use Rattle.encoding.proofs.Lists.{cond-by}
 use Rattle.raw_column.specs.Table.{Tab, tab, faulty, parse}
 use Rattle.raw_column.specs.Rows.{pad, tableOf, opened}
 use Rattle.raw_column.specs.declared.Table.{Table}
@@ -28,8 +25,7 @@ use Rattle.column_part.specs.declared.Part.{Part}
 use Rattle.column_part.specs.Part.{startOf}
 use Rattle.slots.specs.Splice.{spliced}
 use Rattle.splice.specs.Kind.{Kind}
-use Rattle.splice.specs.Kinds.{integer, delta, boolean, text}
-use Rattle.splice.specs.Edit.{Edited, stop, late, accepted, endIn, serves, givenOptional, givenBoolean, givenText, editIn, edited, readingsOf, outLeft}
+use Rattle.splice.specs.Edit.{Edited, stop, late, accepted, endIn, serves, editIn, edited, readingsOf, outLeft}
 use Rattle.splice.specs.Steps.{countAs}
 use Rattle.splice.specs.Lent.{Lent}
 use Rattle.splice.specs.declared.ColumnKind.{ColumnKind}
@@ -40,8 +36,10 @@ use Rattle.splice.proofs.Numbered.{SomeStop, SomeRefused, edited-some}
 use Rattle.text_encoder.proofs.Refilling.{take-bytes, drop-bytes}
 use Rattle.counted_table.specs.Calls.{splicedAs}
 use Rattle.counted_table.specs.declared.edits.CountedSpliced.{CountedSpliced}
-use Rattle.counted_table.specs.Counts.{uncounted, countedOpened, storedAt, stored, agreeTo, fits, lentIn, lentTab, served, countOf, orCounted, rowCount, countPart, countIn, countedAs, counted}
+use Rattle.counted_table.specs.Counts.{uncounted, countedOpened, storedAt, stored, agreeTo, fits, lentIn, lentTab}
+use Rattle.counted_table.specs.Counts.{served, countOf, orCounted, rowCount, countPart, countIn, countedAs, counted}
 use Rattle.counted_table.specs.Reached.{TrueOf}
+use Rattle.counted_table.proofs.Storing.{pad-long}
 use Rattle.counted_table.specs.declared.CountedTable.{CountedTable}
 
 -- ---- what a table has stored
@@ -65,11 +63,6 @@ pad-at xs n i h =
           ∙ sym (List·getD-eq-default xs 0 (omega (arith, length-take n xs))))
     ]
 
-pad-long : (xs : List ℕ) (n : ℕ) → 64 ≤ length (pad (take n xs))
-unfolding pad
-pad-long xs n =
-    omega (arith, length-append (take n xs) (replicate (64 - length (take n xs)) 0), length-replicate (64 - length (take n xs)) zero)
-
 pub none-stored : (t : Table) (i : ℕ) → storedAt (uncounted t) i ≡ none
 unfolding storedAt
 none-stored t i = rw (eq-eqb (getD (replicate 64 0) i 0) 0 (zeros-at 64 i))
@@ -79,9 +72,9 @@ module _ (lent : CountedTable) (t : Table) (position n : ℕ) where
   unfolding storedAt stored
   stored-own h =
       let a : getD (set (pad (take (t .rows) (lent .known))) position 1) position 0 ≡ 1 =
-      getD-set-same (pad (take (t .rows) (lent .known))) position 1 0 (omega (arith, pad-long (lent .known) (t .rows))) in
+      getD-set-same (pad (take (t .rows) (lent .known))) position 1 0 (omega (arith, pad-long (take (t .rows) (lent .known)))) in
       let b : getD (set (pad (take (t .rows) (lent .counts))) position n) position 0 ≡ n =
-      getD-set-same (pad (take (t .rows) (lent .counts))) position n 0 (omega (arith, pad-long (lent .counts) (t .rows))) in
+      getD-set-same (pad (take (t .rows) (lent .counts))) position n 0 (omega (arith, pad-long (take (t .rows) (lent .counts)))) in
       rw (a, b)
 
   pub stored-other : (i : ℕ) → i < t .rows → (i ≡ position → ⊥) → storedAt (stored lent t position n) i ≡ storedAt lent i
@@ -251,7 +244,8 @@ module _ {A : Type 0} {K : Kind A} {Good : List A → Type 0} (W : Counts K Good
     own-count : countOf (typeOf (partAt block position .spec)) (bytesOf block (partAt block position)) ≡ done (readingsOf K xs)
     own-count =
         let lens′ = set lens position (length (K .writes xs)) in
-        ap (λ (k : ℕ). countOf (typeOf k) (bytesOf block (partAt block position))) (spec-at block specs lens′ _ position (kept .replaced .table) (right .served))
+        ap (λ (k : ℕ). countOf (typeOf k) (bytesOf block (partAt block position)))
+        (spec-at block specs lens′ _ position (kept .replaced .table) (right .served))
         ∙ ap (countOf (typeOf (getD specs position 0))) (kept .chosen)
         ∙ kind-counts (K .kind) (getD specs position 0) (K .writes xs) (right .kind-is)
         ∙ W .counts (K .writes xs)
@@ -273,7 +267,8 @@ module _ {A : Type 0} {K : Kind A} {Good : List A → Type 0} (W : Counts K Good
               ap (λ (j : ℕ). countOf (typeOf (partAt block j .spec)) (bytesOf block (partAt block j))) d ∙ own-count ∙ ap done b)
               (λ d.
               let l : i < length specs = omega (arith, h, rows) in
-              ap (λ (j : ℕ). countOf (typeOf j) (bytesOf block (partAt block i))) (spec-at block specs lens′ _ i (kept .replaced .table) l ∙ sym (spec-at s specs lens next i is l))
+              ap (λ (j : ℕ). countOf (typeOf j) (bytesOf block (partAt block i)))
+              (spec-at block specs lens′ _ i (kept .replaced .table) l ∙ sym (spec-at s specs lens next i is l))
               ∙ ap (countOf (typeOf (partAt s i .spec))) (kept .others i d)
               ∙ true-of .counts i k (omega (arith, l, many)) (sym (stored-other t T position n i h d) ∙ e))
               (same-or-not i position);
@@ -301,7 +296,8 @@ module _ {A : Type 0} {K : Kind A} {Good : List A → Type 0} (W : Counts K Good
           subst (λ (w : List ℕ). TrueOf w (r .table)) (sym b)
           (subst (λ (w : CountedTable). TrueOf block w) (sym (ap (λ (c : CountedSpliced). c .table) a)) u)
 
-      in-table : (m : Tab) → parse s ≡ m → ParseOk (length s) m → r ≡ splicedAs K t position (editIn K s position start end given new slots (length out) (lentIn t m))
+      in-table : (m : Tab) → parse s ≡ m → ParseOk (length s) m
+          → r ≡ splicedAs K t position (editIn K s position start end given new slots (length out) (lentIn t m))
           → out′ ≡ outLeft (editIn K s position start end given new slots (length out) (lentIn t m)) out → TrueOf (take (r .len) out′) (r .table)
       in-table (faulty number place) e k a o = absurd (omega (arith, ap (λ (c : CountedSpliced). c .number) a, k, z))
       in-table (tab specs lens next) e k a o = by-fit (fits (t .table) (tableOf specs lens)) refl a o
@@ -317,7 +313,8 @@ module _ {A : Type 0} {K : Kind A} {Good : List A → Type 0} (W : Counts K Good
               (edited-some K (W .numbered) start end new slots (length out) s position given some-given)) a o
 
 -- a refused one gives the table back
-pub lent-back : {A : Type 0} (K : Kind A) (t : CountedTable) (position : ℕ) (x : Edited A) {r : CountedSpliced} → r ≡ splicedAs K t position x → (r .number ≡ 0 → ⊥) → r .table ≡ t
+pub lent-back : {A : Type 0} (K : Kind A) (t : CountedTable) (position : ℕ) (x : Edited A) {r : CountedSpliced} → r ≡ splicedAs K t position x
+    → (r .number ≡ 0 → ⊥) → r .table ≡ t
 lent-back K t position (stop number place) a h = ap (λ (c : CountedSpliced). c .table) a
 lent-back K t position (late number place old xs) a h = ap (λ (c : CountedSpliced). c .table) a
 lent-back K t position (accepted old xs block) a h = absurd (h (ap (λ (c : CountedSpliced). c .number) a))

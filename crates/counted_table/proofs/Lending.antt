@@ -1,32 +1,24 @@
 -- A block's table read beside the one that is lent: table faults, 25, and what an edit or a count that gets past them is. Assumes nothing.
-use Prim.Native.Nat.{ℕ, _≤_, _<_}
+use Prim.Native.Nat.{ℕ, _≤_}
 use mathlib.Core.Path.{_≡_, refl, sym, ap, _∙_}
 use mathlib.Core.List.{List}
-use mathlib.Core.Option.{Option}
 use mathlib.Core.Bool.{Bool, true, false, cond}
 use native.Mathlib.Omega.{arith}
-use lib.Dec.{eqb}
-use lib.ListN.{length, take, drop}
+use lib.ListN.{length}
 use borrow.Author.Tests.{eq-eqb, ne-eqb}
-use Rattle.leb128.specs.Answer.{Answer, done, refused}
-use Rattle.column_specification.specs.Specification.{typeOf}
+use Rattle.leb128.specs.Answer.{Answer, refused}
 use Rattle.raw_column.specs.Table.{Tab, tab, faulty, parse}
 use Rattle.raw_column.specs.Rows.{tableOf, opened}
-use Rattle.raw_column.specs.declared.Table.{Table}
 use Rattle.raw_column.specs.declared.Opened.{Opened}
-use Rattle.raw_column.proofs.Opening.{ParseOk, parse-ok, Open, open-bad, open-good, specsOf, lensOf}
-use Rattle.column_part.specs.Part.{partIn, partAt, bytesOf}
-use Rattle.column_part.specs.declared.Part.{Part}
+use Rattle.raw_column.proofs.Opening.{ParseOk, parse-ok, open-bad, open-good, specsOf, lensOf}
 use Rattle.splice.specs.Kind.{Kind}
 use Rattle.splice.specs.Edit.{Edited, stop, late, accepted, editIn, edited, answered}
 use Rattle.splice.specs.declared.End.{End}
 use Rattle.splice.specs.declared.Spliced.{Spliced}
 use Rattle.splice.proofs.Numbered.{SomeStop}
-use Rattle.counted_table.specs.Counts.{storedAt, stored, fits, lentIn, lentTab, served, countOf, orCounted, countPart, countIn, isCounted, notCounted, countedAs, counted}
+use Rattle.counted_table.specs.Counts.{stored, fits, lentIn, lentTab}
 use Rattle.counted_table.specs.Calls.{unspliced, splicedAs, splicedBy}
 use Rattle.counted_table.specs.declared.CountedTable.{CountedTable}
-use Rattle.counted_table.specs.declared.CountedColumn.{CountedColumn}
-use Rattle.counted_table.specs.declared.edits.CountedSpliced.{CountedSpliced}
 
 -- ---- what was read
 module _ (lent : CountedTable) (s : List ℕ) {o : Opened} (e : o ≡ opened (parse s)) where

@@ -10,13 +10,13 @@ use Rattle.text.specs.Given.{nameList}
 use Rattle.raw_column.specs.Rows.{opened}
 use Rattle.raw_column.specs.declared.Opened.{Opened}
 use Rattle.splice.specs.Kind.{Kind}
-use Rattle.splice.specs.Edit.{Edited, stop, givenOptional, givenBoolean, givenText, edited, answered, slotsLeft, outLeft}
+use Rattle.splice.specs.Edit.{Edited, givenOptional, givenBoolean, givenText, answered, slotsLeft, outLeft}
 use Rattle.splice.specs.Contract.{slotIn, flagIn, itself, startsIn, lengthIn, OptionalSpliced, BooleanSpliced, TextSpliced, optionalEdit, booleanEdit, textEdit}
 use Rattle.splice.specs.declared.End.{End}
 use Rattle.splice.specs.declared.Spliced.{Spliced}
 use Rattle.splice.proofs.Numbered.{SomeStop, edited-some, optional-some, boolean-some, text-some}
 use Rattle.counted_table.specs.Counts.{lentTab}
-use Rattle.counted_table.specs.Calls.{unspliced, splicedAs, splicedBy, optionalLent, booleanLent, textLent, OptionalCounted, BooleanCounted, TextCounted}
+use Rattle.counted_table.specs.Calls.{unspliced, splicedAs, splicedBy, OptionalCounted, BooleanCounted, TextCounted}
 use Rattle.counted_table.specs.declared.CountedTable.{CountedTable}
 use Rattle.counted_table.specs.declared.edits.CountedSpliced.{CountedSpliced}
 use Rattle.counted_table.proofs.Lending.{edit-refused, edit-goes, spliced-by, few-answered}
@@ -49,7 +49,8 @@ module _ {A : Type 0} (K : Kind (Option A)) (numbered : (c : List ℕ) → Numbe
   pub optional-refused : (o .number ≡ 0 → ⊥) → {a : CountedSpliced} → a ≡ unspliced lent (o .number) (o .place)
       → OptionalCounted K nought s lent position start end new flags v v p p out out a
   optional-refused h {a} q =
-      let k = sym (edit-refused K lent s position start end (givenOptional (length v) (length p) (length new) flags) (slotList new flags) (length v) (length out) e h) in
+      let given = givenOptional (length v) (length p) (length new) flags in
+      let k = sym (edit-refused K lent s position start end given (slotList new flags) (length v) (length out) e h) in
       record {
         answer = q ∙ ap (splicedAs K lent position) k;
         values = ap (λ (x : Edited (Option A)). slotsLeft nought (map (slotIn nought)) x v) k;
@@ -63,7 +64,8 @@ module _ {A : Type 0} (K : Kind (Option A)) (numbered : (c : List ℕ) → Numbe
   optional-goes z {v′} {p′} {out′} {r} {a} c q =
       let given = givenOptional (length v) (length p) (length new) flags in
       let k = edit-goes K lent s position start end given (slotList new flags) (length v) (length out) e z in
-      let some = edited-some K numbered start end (slotList new flags) (length v) (length out) s position given (optional-some (length v) (length p) (length new) flags) in
+      let some = edited-some K numbered start end (slotList new flags) (length v) (length out) s position given
+      (optional-some (length v) (length p) (length new) flags) in
       record {
         answer = answer-of K lent position k some (c .answer) q;
         values = c .values ∙ ap (λ (x : Edited (Option A)). slotsLeft nought (map (slotIn nought)) x v) k;

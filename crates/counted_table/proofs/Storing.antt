@@ -1,9 +1,9 @@
 -- Rows that agree, counts that are stored and looked up, and columns counted by their type. Assumes nothing.
-use Prim.Native.Nat.{ℕ, zero, suc, _+_, _-_, _≤_, _<_}
+use Prim.Native.Nat.{ℕ, zero, suc, _+_, _-_, _≤_, _<_, max}
 use mathlib.Core.Path.{_≡_, refl, sym, ap, _∙_}
 use mathlib.Core.List.{List, [], _∷_, _++_, append-assoc}
-use mathlib.Core.Option.{Option, none, some}
-use mathlib.Core.Bool.{Bool, true, false, cond, _&&_}
+use mathlib.Core.Option.{none, some}
+use mathlib.Core.Bool.{Bool, true, false, _&&_}
 use native.Mathlib.Decide.{decLt}
 use native.Mathlib.Numerals.{add-one}
 use native.Mathlib.Omega.{arith}
@@ -85,10 +85,13 @@ pad-more xs i h l =
     ∙ sym (append-assoc (take i xs) (getD xs i 0 ∷ []) (replicate (64 - length (take (i + 1) xs)) 0))
     ∙ ap (λ (ys : List ℕ). ys ++ replicate (64 - length (take (i + 1) xs)) 0) (sym (ap (λ (j : ℕ). take j xs) (add-one i) ∙ take-suc xs i 0 h)))
 
-pub pad-full : (xs : List ℕ) (i : ℕ) → length xs ≡ 64 → length (pad (take i xs)) ≡ 64
+-- a padded list has 64 places at least, and of one that has no more, 64
+pub pad-long : (xs : List ℕ) → length (pad xs) ≡ max (length xs) 64
 unfolding pad
-pad-full xs i e =
-    omega (arith, length-append (take i xs) (replicate (64 - length (take i xs)) 0), length-replicate (64 - length (take i xs)) zero, length-take i xs)
+pad-long xs = omega (arith, length-append xs (replicate (64 - length xs) 0), length-replicate (64 - length xs) zero)
+
+pub pad-full : (xs : List ℕ) (i : ℕ) → length xs ≡ 64 → length (pad (take i xs)) ≡ 64
+pad-full xs i e = omega (arith, pad-long (take i xs), length-take i xs)
 
 pub pad-none : (xs : List ℕ) → replicate 64 0 ≡ pad (take 0 xs)
 unfolding pad
@@ -122,7 +125,8 @@ served-none t e = rw e
 
 pub served-beyond : (t : ℕ) → 6 ≤ t → served t ≡ false
 served-beyond t h =
-    rw (ne-eqb t 1 (λ e. omega arith), ne-eqb t 2 (λ e. omega arith), ne-eqb t 3 (λ e. omega arith), ne-eqb t 4 (λ e. omega arith), ne-eqb t 5 (λ e. omega arith))
+    let other : (k : ℕ) → k < 6 → eqb t k ≡ false = λ k l. ne-eqb t k (λ e. omega arith) in
+    rw (other 1 (omega arith), other 2 (omega arith), other 3 (omega arith), other 4 (omega arith), other 5 (omega arith))
 
 module _ (t : ℕ) (s : List ℕ) where
   pub count-deltas : t ≡ 3 → outcome (deltaTrace s) ≡ countOf t s

@@ -1,15 +1,13 @@
 -- WHAT IS STORED IS TRUE (02, [6]): `reached-true`, by induction over any sequence of calls, refused ones too.
 -- Assumes nothing.
-use Prim.Native.Nat.{ℕ, _<_, _^_}
-use mathlib.Core.Path.{_≡_, refl, sym, ap, _∙_, subst}
+use Prim.Native.Nat.{ℕ}
+use mathlib.Core.Path.{_≡_, refl, sym, subst}
 use mathlib.Core.List.{List}
 use mathlib.Core.Option.{Option, none}
-use mathlib.Core.Bool.{Bool, true, false, cond, _&&_}
 use native.Mathlib.Omega.{arith}
-use lib.Dec.{eqb}
-use lib.IntN.{ℤ, pos}
+use lib.IntN.{pos}
 use lib.ListN.{length}
-use Rattle.leb128.specs.Answer.{Answer, done, refused}
+use Rattle.leb128.specs.Answer.{done, refused}
 use Rattle.encoding.specs.Given.{slotList, badFlag}
 use Rattle.encoding.proofs.Back.{ListFits}
 use Rattle.rle_decoder.specs.Word.{u64E}
@@ -85,7 +83,8 @@ clean-given new g = go (badFlag 0 new)
 
 -- ---- an edit, accepted or refused
 
-edited-true : (e : Edit) (s : List ℕ) (t : CountedTable) → TrueOf s t → Lent s → (c : Call e s t) → c .answer .number ≡ 0 → TrueOf (blockOf c) (c .answer .table)
+edited-true : (e : Edit) (s : List ℕ) (t : CountedTable) → TrueOf s t → Lent s → (c : Call e s t) → c .answer .number ≡ 0
+    → TrueOf (blockOf c) (c .answer .table)
 edited-true (integers position start end new flags) s t true-of p c z =
     let v = c .slots in
     edit-true integers-count s t true-of position start end (givenOptional (length (v .0)) (length (v .1)) (length new) flags) (slotList new flags)
@@ -103,7 +102,8 @@ edited-true (names position start end bytes starts lens flags) s t true-of p c z
     let v = c .slots in
     edit-true names-count s t true-of position start end (givenText (length (v .0)) (length (v .1)) (length (v .2)) bytes starts lens flags)
     (nameList bytes starts lens flags) (length (v .0)) (c .out) p (c .lent)
-    (λ g h. texts-fit bytes (c .typed .short) 0 starts lens flags (names-good (length (v .0)) (length (v .1)) (length (v .2)) bytes starts lens flags h .names .texts))
+    (λ g h. texts-fit bytes (c .typed .short) 0 starts lens flags
+    (names-good (length (v .0)) (length (v .1)) (length (v .2)) bytes starts lens flags h .names .texts))
     (text-some (length (v .0)) (length (v .1)) (length (v .2)) bytes starts lens flags) (c .promised .answer) (c .promised .output) z
 
 given-back : (e : Edit) (s : List ℕ) (t : CountedTable) (c : Call e s t) → (c .answer .number ≡ 0 → ⊥) → c .answer .table ≡ t

@@ -5,25 +5,23 @@ use mathlib.Core.Path.{_≡_, refl, sym, ap, _∙_}
 use mathlib.Core.List.{List, [], _∷_, _++_, map}
 use mathlib.Core.Option.{Option, none, some}
 use mathlib.Core.Bool.{Bool, true, false, cond}
-use native.Mathlib.Decide.{decLt}
 use native.Mathlib.Omega.{arith}
-use lib.Dec.{ltb, leb, eqb}
+use lib.Dec.{leb, eqb}
 use lib.IntN.{ℤ, pos}
-use lib.ListN.{length, getD, take, drop, length-map}
+use lib.ListN.{length, getD, take, drop}
 use borrow.Author.Tests.{ne-eqb, lt-ltb}
-use Rattle.leb128.specs.Answer.{Answer, done}
+use Rattle.leb128.specs.Answer.{done}
 use Rattle.encoding.specs.Element.{Element}
 use Rattle.encoding.specs.Limit.{limit}
-use Rattle.encoding.specs.Walk.{Trace, Ending, sound, outcome, outcomeOf}
+use Rattle.encoding.specs.Walk.{Trace, sound, outcome, outcomeOf}
 use Rattle.encoding.specs.Column.{Reading, absent, present, value, trace, values}
 use Rattle.encoding.specs.Writer.{anyPresent, columnBytes}
 use Rattle.encoding.specs.Given.{given, slotList, badFlag}
-use Rattle.encoding.proofs.Elements.{ElementLaws}
 use Rattle.encoding.proofs.Back.{ListFits, round-trip, no-value, nothing-reads}
 use Rattle.encoding.proofs.Readable.{readable, Fits}
 use Rattle.rle_decoder.specs.Word.{u64E}
 use Rattle.rle_decoder.proofs.WordLaws.{u64-laws}
-use Rattle.delta_decoder.specs.Difference.{holds, i64E}
+use Rattle.delta_decoder.specs.Difference.{i64E}
 use Rattle.delta_decoder.specs.Sums.{deltaTrace}
 use Rattle.delta_decoder.proofs.Limits.{delta-held}
 use Rattle.delta_encoder.specs.Differences.{differences, deltaBytes, wideAt}
@@ -36,11 +34,10 @@ use Rattle.boolean_encoder.proofs.Writing.{judged-flags}
 use Rattle.text.specs.Text.{textE}
 use Rattle.text.proofs.TextLaws.{text-laws}
 use Rattle.slots.specs.Splice.{spliced}
-use Rattle.splice.specs.Kind.{Kind}
 use Rattle.splice.specs.Kinds.{integer, delta, boolean, text}
 use Rattle.splice.specs.Edit.{readingsIn, readingsOf}
 use Rattle.splice.proofs.Writing.{good-judged}
-use Rattle.counted_table.specs.Reached.{Words, SignedWords}
+use Rattle.counted_table.specs.Reached.{Words}
 
 -- ---- lists in parts
 module _ {A : Type 0} (E : Element A) where

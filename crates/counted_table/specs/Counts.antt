@@ -18,7 +18,6 @@ use Rattle.text.specs.Text.{textE}
 use Rattle.raw_column.specs.Table.{Tab, tab, faulty, parse}
 use Rattle.raw_column.specs.Rows.{pad, tableOf, opened}
 use Rattle.raw_column.specs.declared.Table.{Table}
-use Rattle.raw_column.specs.declared.Opened.{Opened}
 use Rattle.column_part.specs.Part.{partIn, bytesOf}
 use Rattle.column_part.specs.declared.Part.{Part}
 use Rattle.counted_table.specs.declared.CountedTable.{CountedTable}

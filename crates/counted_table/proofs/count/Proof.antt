@@ -1,5 +1,5 @@
 -- `counted_table::count` meets its contract: one law for each way out. Assumes nothing.
-use mathlib.Core.Path.{refl, sym, ap, _∙_}
+use mathlib.Core.Path.{refl, sym, _∙_}
 use native.Mathlib.Omega.{arith}
 use denote.Ref.{now}
 use Rattle.encoding.specs.Cases.{answerOf}
@@ -31,7 +31,11 @@ uncounted-answer-requires-2 c κs = search needs
 returns-2 : tie.Need-returns-2
 returns-2 c =
     let a = c .before .before .before .before .before .before .before .before .args in
-    c .uncounted-answer2 .ensures ∙ count-unplaced (a .lent) (now (a .block)) (a .position) (c .before .before .before .before .before .before .open-lent .ensures) (c .before .before .before .before .if1 .left) (c .before .before .before .locate .ensures) (c .before .if2 .taken)
+    let open-lent = c .before .before .before .before .before .before .open-lent in
+    let if1 = c .before .before .before .before .if1 in
+    let locate = c .before .before .before .locate in
+    c .uncounted-answer2 .ensures ∙ count-unplaced (a .lent) (now (a .block)) (a .position) (open-lent .ensures) (if1 .left) (locate .ensures)
+    (c .before .if2 .taken)
 
 col-type-requires : tie.Need-col-type-requires
 col-type-requires c κs = search needs
@@ -45,19 +49,25 @@ stored-at-requires c κs = search needs
 add-count-row : tie.Need-add-count-row
 add-count-row c =
     let a = c .before .before .before .before .before .before .before .before .before .before .before .args in
-    let h = part-in (now (a .block)) (a .position) (c .before .before .before .before .before .before .locate .result) (c .before .before .before .before .before .before .locate .ensures) in
+    let locate = c .before .before .before .before .before .before .locate in
+    let h = part-in (now (a .block)) (a .position) (locate .result) (locate .ensures) in
     search (needs, h)
 
 count-row-requires : tie.Need-count-row-requires
 count-row-requires c κs =
     let a = c .before .before .before .before .before .before .before .before .before .before .before .args in
-    (omega arith, part-in (now (a .block)) (a .position) (c .before .before .before .before .before .before .locate .result) (c .before .before .before .before .before .before .locate .ensures))
+    let locate = c .before .before .before .before .before .before .locate in
+    (omega arith, part-in (now (a .block)) (a .position) (locate .result) (locate .ensures))
 
 enum-known-n : tie.Need-enum-known-n
 enum-known-n c = search needs
 
 counted-answer-requires : tie.Need-counted-answer-requires
-counted-answer-requires c κs = let a = c .before .before .before .before .before .before .before .before .before .before .before .before .before .before .before .args in lent-few (a .lent) (now (a .block)) (c .before .before .before .before .before .before .before .before .before .before .before .before .before .open-lent .ensures) (c .before .before .before .before .before .before .before .before .before .before .before .if1 .left)
+counted-answer-requires c κs =
+    let a = c .before .before .before .before .before .before .before .before .before .before .before .before .before .before .before .args in
+    let open-lent = c .before .before .before .before .before .before .before .before .before .before .before .before .before .open-lent in
+    let if1 = c .before .before .before .before .before .before .before .before .before .before .before .if1 in
+    lent-few (a .lent) (now (a .block)) (open-lent .ensures) (if1 .left)
 
 enum-known-number : tie.Need-enum-known-number
 enum-known-number c = search needs
@@ -68,14 +78,32 @@ uncounted-answer-requires-3 c κs = search needs
 returns-3 : tie.Need-returns-3
 returns-3 c =
     let a = c .before .before .before .before .before .before .before .before .before .before .before .before .before .before .before .before .args in
-    c .counted-answer .ensures ∙ count-given (a .lent) (now (a .block)) (a .position) (c .before .before .before .before .before .before .before .before .before .before .before .before .before .before .open-lent .ensures) (c .before .before .before .before .before .before .before .before .before .before .before .before .if1 .left) (c .before .before .before .before .before .before .before .before .before .before .before .locate .ensures) (c .before .before .before .before .before .before .before .before .before .if2 .left)
-    (c .before .before .before .before .before .before .before .as-u8 .ensures ∙ c .before .before .before .before .before .before .before .before .col-type .ensures) (c .before .before .before .before .before .before .stored-at .ensures) refl (sym (via answerOf (c .before .before .before .before .count-row .ensures) (c .before .before .n .given .1)))
+    let open-lent = c .before .before .before .before .before .before .before .before .before .before .before .before .before .before .open-lent in
+    let if1 = c .before .before .before .before .before .before .before .before .before .before .before .before .if1 in
+    let locate = c .before .before .before .before .before .before .before .before .before .before .before .locate in
+    let if2 = c .before .before .before .before .before .before .before .before .before .if2 in
+    let as-u8 = c .before .before .before .before .before .before .before .as-u8 in
+    let col-type = c .before .before .before .before .before .before .before .before .col-type in
+    let stored-at = c .before .before .before .before .before .before .stored-at in
+    let count-row = c .before .before .before .before .count-row in
+    let n = c .before .before .n in
+    c .counted-answer .ensures ∙ count-given (a .lent) (now (a .block)) (a .position) (open-lent .ensures) (if1 .left) (locate .ensures) (if2 .left)
+    (as-u8 .ensures ∙ col-type .ensures) (stored-at .ensures) refl (sym (via answerOf (count-row .ensures) (n .given .1)))
 
 returns-4 : tie.Need-returns-4
 returns-4 c =
     let a = c .before .before .before .before .before .before .before .before .before .before .before .before .before .before .before .before .args in
-    c .uncounted-answer3 .ensures ∙ count-refused (a .lent) (now (a .block)) (a .position) (c .before .before .before .before .before .before .before .before .before .before .before .before .before .before .open-lent .ensures) (c .before .before .before .before .before .before .before .before .before .before .before .before .if1 .left) (c .before .before .before .before .before .before .before .before .before .before .before .locate .ensures) (c .before .before .before .before .before .before .before .before .before .if2 .left)
-    (c .before .before .before .before .before .before .before .as-u8 .ensures ∙ c .before .before .before .before .before .before .before .before .col-type .ensures) (c .before .before .before .before .before .before .stored-at .ensures) refl (sym (via answerOf (c .before .before .before .before .count-row .ensures) (c .before .before .number .given .1)))
+    let open-lent = c .before .before .before .before .before .before .before .before .before .before .before .before .before .before .open-lent in
+    let if1 = c .before .before .before .before .before .before .before .before .before .before .before .before .if1 in
+    let locate = c .before .before .before .before .before .before .before .before .before .before .before .locate in
+    let if2 = c .before .before .before .before .before .before .before .before .before .if2 in
+    let as-u8 = c .before .before .before .before .before .before .before .as-u8 in
+    let col-type = c .before .before .before .before .before .before .before .before .col-type in
+    let stored-at = c .before .before .before .before .before .before .stored-at in
+    let count-row = c .before .before .before .before .count-row in
+    let number = c .before .before .number in
+    c .uncounted-answer3 .ensures ∙ count-refused (a .lent) (now (a .block)) (a .position) (open-lent .ensures) (if1 .left) (locate .ensures)
+    (if2 .left) (as-u8 .ensures ∙ col-type .ensures) (stored-at .ensures) refl (sym (via answerOf (count-row .ensures) (number .given .1)))
 
 pub count-spec : {M : Type 1} → statement M
 count-spec =

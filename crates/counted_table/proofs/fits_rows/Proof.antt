@@ -59,10 +59,12 @@ element-copy-out-if3-2 c = search needs
 returns-3 : tie.Need-returns-3 Inv-loop μ-loop
 returns-3 c =
     let s = c .before .before .before .before .before .before .before .before .before in
-    let e = c .before .before .before .before .before .before .before .before .if1 .left in
+    let if1 = c .before .before .before .before .before .before .before .before .if1 in
     let loop = c .before .before .before .before .before .before .before .loop in
+    let loop-test = c .before .before .before .before .before .before .loop-test in
+    let e = if1 .left in
     let i = loop .i in
-    other-row (s .args .t1) (s .args .t2) e i (c .before .before .before .before .before .before .loop-test .taken) (starts-differ (s .args .t1) (s .args .t2) i (c .if3 .taken))
+    other-row (s .args .t1) (s .args .t2) e i (loop-test .taken) (starts-differ (s .args .t1) (s .args .t2) i (c .if3 .taken))
 
 mul-if4 : tie.Need-mul-if4 Inv-loop μ-loop
 mul-if4 c = search needs
@@ -79,10 +81,12 @@ element-copy-out-if4-2 c = search needs
 returns-4 : tie.Need-returns-4 Inv-loop μ-loop
 returns-4 c =
     let s = c .before .before .before .before .before .before .before .before .before .before .before .before in
-    let e = c .before .before .before .before .before .before .before .before .before .before .before .if1 .left in
+    let if1 = c .before .before .before .before .before .before .before .before .before .before .before .if1 in
     let loop = c .before .before .before .before .before .before .before .before .before .before .loop in
+    let loop-test = c .before .before .before .before .before .before .before .before .before .loop-test in
+    let e = if1 .left in
     let i = loop .i in
-    other-row (s .args .t1) (s .args .t2) e i (c .before .before .before .before .before .before .before .before .before .loop-test .taken) (lens-differ (s .args .t1) (s .args .t2) i (c .if4 .taken))
+    other-row (s .args .t1) (s .args .t2) e i (loop-test .taken) (lens-differ (s .args .t1) (s .args .t2) i (c .if4 .taken))
 
 add-i : tie.Need-add-i Inv-loop μ-loop
 add-i c = search needs
@@ -93,11 +97,10 @@ loop-less c = search needs
 loop-again : tie.Need-loop-again Inv-loop μ-loop
 loop-again c =
     let s = c .before .before .before .before .before .before .before .before .before .before .before .before in
-    let loop = c .before .before .before .before .before .before .before .before .before .before .loop in (
-      omega arith,
-      agree-more (s .args .t1) (s .args .t2) (loop .i) (loop .inv .1)
-          (row-agrees (s .args .t1) (s .args .t2) (loop .i) (c .before .before .before .before .before .before .if2 .left) (c .before .before .before .if3 .left) (c .if4 .left)),
-    )
+    let loop = c .before .before .before .before .before .before .before .before .before .before .loop in
+    let if2 = c .before .before .before .before .before .before .if2 in
+    let if3 = c .before .before .before .if3 in
+    (omega arith, agree-more (s .args .t1) (s .args .t2) (loop .i) (loop .inv .1) (row-agrees (s .args .t1) (s .args .t2) (loop .i) (if2 .left) (if3 .left) (c .if4 .left)))
 
 returns-5 : tie.Need-returns-5 Inv-loop μ-loop
 returns-5 c =

@@ -14,7 +14,11 @@ returns : tie.Need-returns
 returns c = let a = c .before .before .before .before .args in lent-bad (a .lent) (now (a .block)) (c .before .before .read-table .ensures) (c .if1 .taken)
 
 fits-rows-requires : tie.Need-fits-rows-requires
-fits-rows-requires c κs = let a = c .before .before .before .before .before .before .args in few-rows (a .lent) (now (a .block)) (c .before .before .before .before .read-table .ensures) (c .before .before .if1 .left)
+fits-rows-requires c κs =
+    let a = c .before .before .before .before .before .before .args in
+    let read-table = c .before .before .before .before .read-table in
+    let if1 = c .before .before .if1 in
+    few-rows (a .lent) (now (a .block)) (read-table .ensures) (if1 .left)
 
 other-table-requires : tie.Need-other-table-requires
 other-table-requires c κs = search needs
@@ -22,12 +26,18 @@ other-table-requires c κs = search needs
 returns-2 : tie.Need-returns-2
 returns-2 c =
     let a = c .before .before .before .before .before .before .before .before .before .args in
-    c .other-table .ensures ∙ lent-other (a .lent) (now (a .block)) (c .before .before .before .before .before .before .before .read-table .ensures) (c .before .before .before .before .before .if1 .left) (sym (not-true _ (c .before .if2 .taken)) ∙ c .before .before .fits-rows .ensures)
+    let read-table = c .before .before .before .before .before .before .before .read-table in
+    let if1 = c .before .before .before .before .before .if1 in
+    let fits-rows = c .before .before .fits-rows in
+    c .other-table .ensures ∙ lent-other (a .lent) (now (a .block)) (read-table .ensures) (if1 .left)
+    (sym (not-true _ (c .before .if2 .taken)) ∙ fits-rows .ensures)
 
 returns-3 : tie.Need-returns-3
 returns-3 c =
     let a = c .before .before .before .before .before .before .before .before .args in
-    lent-same (a .lent) (now (a .block)) (c .before .before .before .before .before .before .read-table .ensures) (c .before .before .before .before .if1 .left) (sym (not-false _ (c .if2 .left)) ∙ c .before .fits-rows .ensures)
+    let read-table = c .before .before .before .before .before .before .read-table in
+    let if1 = c .before .before .before .before .if1 in
+    lent-same (a .lent) (now (a .block)) (read-table .ensures) (if1 .left) (sym (not-false _ (c .if2 .left)) ∙ c .before .fits-rows .ensures)
 
 pub open-lent-spec : {M : Type 1} → statement M
 open-lent-spec =

@@ -1,5 +1,5 @@
 -- `counted_table::store` meets its contract: the counts of so many rows as they were lent, the rest still 0. Assumes nothing.
-use mathlib.Core.Path.{_≡_, refl, sym, ap, _∙_}
+use mathlib.Core.Path.{_≡_, sym, ap, _∙_}
 use Prim.Native.Nat.{ℕ, _-_, _≤_, _<_}
 use mathlib.Core.List.{List}
 use native.Mathlib.Omega.{arith}
@@ -60,11 +60,12 @@ loop-again c =
     let loop = c .before .before .before .loop in
     let i = loop .i in
     let h : i < a .table .rows = c .before .before .loop-test .taken in
+    let l : i < 64 = omega (arith, c .before .before .before .before .pre) in
     let f : length (a .t1 .counts) ≡ 64 = search needs in
     let g : length (a .t1 .known) ≡ 64 = search needs in (
       omega arith,
-      ap (λ (xs : List ℕ). set xs i (getD (a .t1 .counts) i 0)) (loop .inv .1) ∙ pad-more (a .t1 .counts) i (omega (arith, c .before .before .before .before .pre)) (omega (arith, c .before .before .before .before .pre)),
-      ap (λ (xs : List ℕ). set xs i (getD (a .t1 .known) i 0)) (loop .inv .2) ∙ pad-more (a .t1 .known) i (omega (arith, c .before .before .before .before .pre)) (omega (arith, c .before .before .before .before .pre)),
+      ap (λ (xs : List ℕ). set xs i (getD (a .t1 .counts) i 0)) (loop .inv .1) ∙ pad-more (a .t1 .counts) i (omega arith) l,
+      ap (λ (xs : List ℕ). set xs i (getD (a .t1 .known) i 0)) (loop .inv .2) ∙ pad-more (a .t1 .known) i (omega arith) l,
     )
 
 mul-counts-3 : tie.Need-mul-counts-3 Inv-loop μ-loop

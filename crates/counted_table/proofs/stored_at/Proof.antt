@@ -1,6 +1,4 @@
 -- `counted_table::stored_at` meets its contract. Assumes nothing.
-use mathlib.Core.Path.{_∙_, sym, ap}
-use native.Mathlib.Omega.{arith}
 use borrow.Author.Needs.{needs}
 use Rattle.counted_table.proofs.Storing.{known-none, known-some, known-beyond}
 use Rattle.counted_table.proofs.stored_at.Statement.{statement}

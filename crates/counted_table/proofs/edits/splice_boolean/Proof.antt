@@ -34,8 +34,11 @@ same-length-2 c = search needs
 returns-2 : tie.Need-returns-2
 returns-2 c =
     let a = c .before .before .before .before .before .before .before .before .before .before .before .before .before .before .before .args in
+    let open-lent = c .before .before .before .before .before .before .before .before .before .before .open-lent in
+    let if1 = c .before .before .before .before .before .before .before .before .if1 in
+    let splice-boolean = c .before .before .before .before .before .splice-boolean in
     boolean-goes boolean boolean-numbered (now (a .block)) (a .lent) (a .position) (a .start) (a .end) (now (a .new)) (now (a .values)) (now (a .out))
-    (c .before .before .before .before .before .before .before .before .before .before .open-lent .ensures) (c .before .before .before .before .before .before .before .before .if1 .left) (c .before .before .before .before .before .splice-boolean .ensures) (c .answer .ensures)
+    (open-lent .ensures) (if1 .left) (splice-boolean .ensures) (c .answer .ensures)
 
 pub splice-boolean-spec : {M : Type 1} → statement M
 splice-boolean-spec =

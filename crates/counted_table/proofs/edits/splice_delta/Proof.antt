@@ -17,8 +17,9 @@ refused-requires c κs = search needs
 returns : tie.Need-returns
 returns c =
     let a = c .before .before .before .before .before .before .before .before .args in
-    optional-refused delta delta-numbered (pos 0) (now (a .block)) (a .lent) (a .position) (a .start) (a .end) (now (a .new)) (now (a .new-present)) (now (a .values)) (now (a .present)) (now (a .out))
-    (c .before .before .before .open-lent .ensures) (c .before .if1 .taken) (c .refused .ensures)
+    let open-lent = c .before .before .before .open-lent in
+    optional-refused delta delta-numbered (pos 0) (now (a .block)) (a .lent) (a .position) (a .start) (a .end) (now (a .new)) (now (a .new-present))
+    (now (a .values)) (now (a .present)) (now (a .out)) (open-lent .ensures) (c .before .if1 .taken) (c .refused .ensures)
 
 splice-delta-requires : tie.Need-splice-delta-requires
 splice-delta-requires c κs = search needs
@@ -38,8 +39,11 @@ same-length-3 c = search needs
 returns-2 : tie.Need-returns-2
 returns-2 c =
     let a = c .before .before .before .before .before .before .before .before .before .before .before .before .before .before .before .before .before .args in
-    optional-goes delta delta-numbered (pos 0) (now (a .block)) (a .lent) (a .position) (a .start) (a .end) (now (a .new)) (now (a .new-present)) (now (a .values)) (now (a .present)) (now (a .out))
-    (c .before .before .before .before .before .before .before .before .before .before .before .before .open-lent .ensures) (c .before .before .before .before .before .before .before .before .before .before .if1 .left) (c .before .before .before .before .before .before .splice-delta .ensures) (c .answer .ensures)
+    let open-lent = c .before .before .before .before .before .before .before .before .before .before .before .before .open-lent in
+    let if1 = c .before .before .before .before .before .before .before .before .before .before .if1 in
+    let splice-delta = c .before .before .before .before .before .before .splice-delta in
+    optional-goes delta delta-numbered (pos 0) (now (a .block)) (a .lent) (a .position) (a .start) (a .end) (now (a .new)) (now (a .new-present))
+    (now (a .values)) (now (a .present)) (now (a .out)) (open-lent .ensures) (if1 .left) (splice-delta .ensures) (c .answer .ensures)
 
 pub splice-delta-spec : {M : Type 1} → statement M
 splice-delta-spec =

@@ -16,8 +16,9 @@ refused-requires c κs = search needs
 returns : tie.Need-returns
 returns c =
     let a = c .before .before .before .before .before .before .before .before .before .before .args in
-    optional-refused integer integer-numbered 0 (now (a .block)) (a .lent) (a .position) (a .start) (a .end) (now (a .new)) (now (a .new-present)) (now (a .values)) (now (a .present)) (now (a .out))
-    (c .before .before .before .open-lent .ensures) (c .before .if1 .taken) (c .refused .ensures)
+    let open-lent = c .before .before .before .open-lent in
+    optional-refused integer integer-numbered 0 (now (a .block)) (a .lent) (a .position) (a .start) (a .end) (now (a .new)) (now (a .new-present))
+    (now (a .values)) (now (a .present)) (now (a .out)) (open-lent .ensures) (c .before .if1 .taken) (c .refused .ensures)
 
 splice-integer-requires : tie.Need-splice-integer-requires
 splice-integer-requires c κs = search needs
@@ -36,9 +37,13 @@ same-length-3 c = search needs
 
 returns-2 : tie.Need-returns-2
 returns-2 c =
-    let a = c .before .before .before .before .before .before .before .before .before .before .before .before .before .before .before .before .before .before .before .before .args in
-    optional-goes integer integer-numbered 0 (now (a .block)) (a .lent) (a .position) (a .start) (a .end) (now (a .new)) (now (a .new-present)) (now (a .values)) (now (a .present)) (now (a .out))
-    (c .before .before .before .before .before .before .before .before .before .before .before .before .before .open-lent .ensures) (c .before .before .before .before .before .before .before .before .before .before .before .if1 .left) (c .before .before .before .before .before .before .before .splice-integer .ensures) (c .answer .ensures)
+    let lent = c .before .before .before .before .before .before .before .before .before .before .before .before .before in
+    let a = lent .before .before .before .before .before .before .before .args in
+    let open-lent = lent .open-lent in
+    let if1 = c .before .before .before .before .before .before .before .before .before .before .before .if1 in
+    let splice-integer = c .before .before .before .before .before .before .before .splice-integer in
+    optional-goes integer integer-numbered 0 (now (a .block)) (a .lent) (a .position) (a .start) (a .end) (now (a .new)) (now (a .new-present))
+    (now (a .values)) (now (a .present)) (now (a .out)) (open-lent .ensures) (if1 .left) (splice-integer .ensures) (c .answer .ensures)
 
 pub splice-integer-spec : {M : Type 1} → statement M
 splice-integer-spec =

@@ -16,9 +16,10 @@ refused-requires c κs = search needs
 returns : tie.Need-returns
 returns c =
     let a = c .before .before .before .before .before .before .before .before .before .before .before .before .before .args in
-    text-refused text text-numbered (now (a .block)) (a .lent) (a .position) (a .start) (a .end) (now (a .bytes)) (now (a .new-starts)) (now (a .new-lens)) (now (a .new-present))
-    (now (a .starts)) (now (a .lens)) (now (a .present)) (now (a .out))
-    (c .before .before .before .open-lent .ensures) (c .before .if1 .taken) (c .refused .ensures)
+    let open-lent = c .before .before .before .open-lent in
+    text-refused text text-numbered (now (a .block)) (a .lent) (a .position) (a .start) (a .end) (now (a .bytes)) (now (a .new-starts))
+    (now (a .new-lens)) (now (a .new-present)) (now (a .starts)) (now (a .lens)) (now (a .present)) (now (a .out)) (open-lent .ensures)
+    (c .before .if1 .taken) (c .refused .ensures)
 
 splice-text-requires : tie.Need-splice-text-requires
 splice-text-requires c κs = search needs
@@ -40,10 +41,14 @@ same-length-4 c = search needs
 
 returns-2 : tie.Need-returns-2
 returns-2 c =
-    let a = c .before .before .before .before .before .before .before .before .before .before .before .before .before .before .before .before .before .before .before .before .before .before .before .before .before .before .args in
-    text-goes text text-numbered (now (a .block)) (a .lent) (a .position) (a .start) (a .end) (now (a .bytes)) (now (a .new-starts)) (now (a .new-lens)) (now (a .new-present))
-    (now (a .starts)) (now (a .lens)) (now (a .present)) (now (a .out))
-    (c .before .before .before .before .before .before .before .before .before .before .before .before .before .before .before .before .open-lent .ensures) (c .before .before .before .before .before .before .before .before .before .before .before .before .before .before .if1 .left) (c .before .before .before .before .before .before .before .before .before .splice-text .ensures) (c .answer .ensures)
+    let lent = c .before .before .before .before .before .before .before .before .before .before .before .before .before .before .before .before in
+    let a = lent .before .before .before .before .before .before .before .before .before .before .args in
+    let open-lent = lent .open-lent in
+    let if1 = c .before .before .before .before .before .before .before .before .before .before .before .before .before .before .if1 in
+    let splice-text = c .before .before .before .before .before .before .before .before .before .splice-text in
+    text-goes text text-numbered (now (a .block)) (a .lent) (a .position) (a .start) (a .end) (now (a .bytes)) (now (a .new-starts))
+    (now (a .new-lens)) (now (a .new-present)) (now (a .starts)) (now (a .lens)) (now (a .present)) (now (a .out)) (open-lent .ensures) (if1 .left)
+    (splice-text .ensures) (c .answer .ensures)
 
 pub splice-text-spec : {M : Type 1} → statement M
 splice-text-spec =
