@@ -1,4 +1,6 @@
 // Strict LEB128 numbers (the crate's storage/parse/leb128.rs): reading at a position of a slice.
+#![tactic(auto)]
+
 ghost use Rattle.std.specs.Prelude.{◌≡◌, ◌+◌, ◌<◌, ◌≤◌, ◌^◌, length, get_or, pos, negsuc};
 ghost use Rattle.std.specs.Int.Signed.{mag};
 ghost use Rattle.leb128.specs.Cases.{u64_of, i64_of, u32_of};
