@@ -1,5 +1,7 @@
 // Reading a Boolean column (the decoder of the crate's columnar/encoding/boolean.rs): its readings counted in one pass over its bytes,
 // whatever the counts say, or decoded into lent slots.
+#![tactic(auto)]
+
 ghost use Rattle.std.specs.Prelude.{◌≡◌, ◌-◌, ◌≤◌, ◌<◌, length, replicate};
 ghost use Rattle.std.proofs.lemmas.List.Edits.{sets};
 ghost use Rattle.leb128.specs.Got.{got};

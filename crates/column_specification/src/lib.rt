@@ -1,4 +1,6 @@
 // Column specifications: one u32 holds a column's id, whether the column is compressed, and the column's type.
+#![tactic(auto)]
+
 ghost use Rattle.std.specs.Prelude.{◌≡◌};
 ghost use Rattle.column_specification.specs.Cases.{packing_of};
 ghost use Rattle.column_specification.specs.TypeNumber.{type_number};

@@ -6,4 +6,3 @@ pub mod Pieces
 pub mod Saying
 pub mod Stepping
 pub mod Taking
-pub mod Thin

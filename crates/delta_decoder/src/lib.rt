@@ -1,5 +1,7 @@
 // Reading a delta column, optional i64 as the run-length column of their differences (the decoder behind the crate's
 // columnar/column_range/delta.rs): its readings counted in one pass over its bytes, whatever the counts say, or decoded into lent slots.
+#![tactic(auto)]
+
 ghost use Rattle.std.specs.Prelude.{◌≡◌, ◌+◌, ◌≤◌, ◌<◌, pos, length, replicate};
 ghost use Rattle.std.proofs.Math.Option.{some};
 ghost use Rattle.std.proofs.lemmas.List.Edits.{sets};

@@ -1,4 +1,6 @@
 // What all column encodings share: their definitions and laws, the limit, and the answers of the code.
+#![tactic(auto)]
+
 pub const LIMIT: u64 = 4294967295;
 
 // A number that counts what was done; or a refusal's number and place.

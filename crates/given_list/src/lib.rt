@@ -1,4 +1,6 @@
 // The check of a given list, looking ahead over its presence bytes, and the counts of its runs: the same for every element.
+#![tactic(auto)]
+
 ghost use Rattle.std.specs.Prelude.{◌≡◌, ◌+◌, ◌≤◌, pos, drop};
 ghost use Rattle.std.proofs.Math.Option.{none};
 ghost use Rattle.encoding.specs.Given.{bad_flag, list_judged};

@@ -1,4 +1,6 @@
 // The table of a block (the crate's storage/columns/raw_column.rs, the uncompressed half): one pass over its bytes.
+#![tactic(auto)]
+
 ghost use Rattle.std.specs.Prelude.{◌≡◌, ◌+◌, ◌<◌, ◌≤◌, length, take};
 ghost use Rattle.raw_column.specs.Table.{in_order, plain, parse, faulty};
 ghost use Rattle.raw_column.specs.Rows.{opened, empty_table, fault_of, Counted, Read};

@@ -1,5 +1,7 @@
 // Reading a run-length column of optional u64, an Actor or Integer column (the decoder of the crate's columnar/encoding/rle.rs): its
 // readings counted in one pass over its bytes, whatever the counts say, or decoded into lent slots.
+#![tactic(auto)]
+
 ghost use Rattle.std.specs.Prelude.{◌≡◌, true, ℕ, ◌+◌, ◌-◌, ◌≤◌, ◌<◌, length, get_or, replicate};
 ghost use Rattle.std.proofs.lemmas.List.Edits.{sets};
 ghost use Rattle.leb128.specs.Read.{u64_at};

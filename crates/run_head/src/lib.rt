@@ -1,4 +1,6 @@
 // How a run of a run-length column begins, the same for every element: its count read, and judged for 5.
+#![tactic(auto)]
+
 ghost use Rattle.std.specs.Prelude.{◌≡◌, ◌+◌, ◌≤◌, ◌<◌, leb, nat_abs};
 ghost use Rattle.leb128.specs.Got.{got};
 ghost use Rattle.leb128.specs.Read.{u64_at};

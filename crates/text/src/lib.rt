@@ -1,4 +1,6 @@
 // The element of String columns, sign names as text: its definitions and laws, and the comparison of bytes. The code that reads such columns stands above.
+#![tactic(auto)]
+
 ghost use Rattle.std.specs.Prelude.{◌≡◌};
 ghost use Rattle.text.specs.Text.{same_bytes};
 

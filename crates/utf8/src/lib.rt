@@ -1,4 +1,6 @@
 // Which bytes are UTF-8 (RFC 3629), in one pass over them.
+#![tactic(auto)]
+
 ghost use Rattle.std.specs.Prelude.{◌≡◌};
 ghost use Rattle.utf8.specs.Utf8.{follow, is_utf8};
 ghost use Rattle.utf8.specs.Due.{ranges, behind, due_of};

@@ -1,0 +1,10 @@
+-- `delta_decoder::count` meets its contract: no fault has the number 0, so the survey's number says how the column ends. Assumes nothing.
+use Rattle.encoding.proofs.Surveying.{survey-sound, survey-fault}
+use Rattle.delta_decoder.proofs.Faults.{delta-numbered}
+use Rattle.delta_decoder.proofs.count.Goals as goal
+
+pub returns-then-found-eq0 : goal.returns-then-found-eq0
+returns-then-found-eq0 c = survey-sound _ _ c.survey-found.ensures (delta-numbered _) c.if-found-eq0.true
+
+pub returns : goal.returns
+returns c = survey-fault _ _ c.survey-found.ensures c.if-found-eq0.false
