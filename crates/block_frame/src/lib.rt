@@ -11,7 +11,7 @@ use leb128_writer::Written;
 use raw_column::{Table, read_table};
 
 // Where the new column of a new block goes, and how long the block is; or a refusal's number and place.
-#[derive(Drop)]
+#[derive(Clone, Copy)]
 pub struct Frame {
     pub number: u8,
     pub place: usize,

@@ -12,7 +12,7 @@ use table_reason::{TableReason, TableTold};
 
 // What a call over a block and a position answers: that nothing is wrong; the reason of the table's fault; the position of the column and the reason
 // of its fault; or a refusal of the call's own.
-#[derive(Drop)]
+#[derive(Clone, Copy)]
 pub enum Why {
     Faultless,
     Table(TableReason),

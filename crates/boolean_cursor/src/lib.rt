@@ -1,5 +1,7 @@
 // A boolean column read a reading at a time, as the crate's BooleanDecoder, an iterator, reads it: the host keeps a small state beside the
 // column's bytes and lends it. No slots and no copy; a call costs the bytes that it passes, whatever the counts say.
+#![tactic(auto)]
+
 ghost use Rattle.std.specs.Prelude.{◌≡◌, ◌-◌, ◌<◌, length};
 ghost use Rattle.leb128.specs.Got.{got};
 ghost use Rattle.boolean_cursor.specs.Cases.{next_of};
@@ -11,7 +13,7 @@ use leb128::ParsedU64;
 
 // The state that the host keeps; any numbers are one.
 #[repr(C)]
-#[derive(Drop)]
+#[derive(Clone, Copy)]
 pub struct BooleanCursor {
     // The length of the column that it was made for.
     pub len: usize,
@@ -26,7 +28,7 @@ pub struct BooleanCursor {
 }
 
 // The next reading, a byte 0 or 1; the end of the column; or a refusal's number and place.
-#[derive(Drop)]
+#[derive(Clone, Copy)]
 pub enum BooleanAnswer {
     Present(u8),
     End,
@@ -34,14 +36,14 @@ pub enum BooleanAnswer {
 }
 
 // The state behind a step, and what the step answers.
-#[derive(Drop)]
+#[derive(Clone, Copy)]
 pub struct BooleanStepped {
     pub cursor: BooleanCursor,
     pub answer: BooleanAnswer,
 }
 
 // A state that is reached; or the column is over, or has a fault, before it.
-#[derive(Drop)]
+#[derive(Clone, Copy)]
 enum Reached {
     On(BooleanCursor),
     Over,

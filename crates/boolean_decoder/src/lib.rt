@@ -17,7 +17,7 @@ use encoding::{Answer, LIMIT, Survey};
 use leb128::ParsedU64;
 
 // Behind a count: the next position, how many readings came so far, and the byte that is counted next; or the count's fault.
-#[derive(Drop)]
+#[derive(Clone, Copy)]
 enum Step {
     On(usize, u64, u8),
     Off(u8, usize),

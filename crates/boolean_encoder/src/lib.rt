@@ -1,5 +1,7 @@
 // Writing a list of booleans as a column, in both forms (the encoders of the crate's columnar/encoding/boolean.rs): the lent
 // list is gone over byte by byte for the size of its counts, and looking ahead to write them.
+#![tactic(auto)]
+
 ghost use Rattle.std.specs.Prelude.{◌≡◌, true, false, [], ◌+◌, ◌≤◌, length, drop};
 ghost use Rattle.std.proofs.lemmas.List.Edits.{sets};
 ghost use Rattle.leb128.specs.Write.{u64_bytes};

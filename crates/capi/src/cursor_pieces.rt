@@ -8,19 +8,19 @@ use delta_cursor::DeltaCursor;
 use rle_cursor::RleCursor;
 
 // The state behind a piece, and the piece in the boundary's form.
-#[derive(Drop)]
+#[derive(Clone, Copy)]
 struct RleTaken {
     cursor: RleCursor,
     piece: PieceU64,
 }
 
-#[derive(Drop)]
+#[derive(Clone, Copy)]
 struct DeltaTaken {
     cursor: DeltaCursor,
     piece: PieceI64,
 }
 
-#[derive(Drop)]
+#[derive(Clone, Copy)]
 struct BooleanTaken {
     cursor: BooleanCursor,
     piece: PieceU8,

@@ -11,19 +11,19 @@ use delta_cursor::DeltaCursor;
 use rle_cursor::RleCursor;
 
 // The state behind a step, and the step's answer in the boundary's form.
-#[derive(Drop)]
+#[derive(Clone, Copy)]
 struct RleStepped {
     cursor: RleCursor,
     answer: NextU64,
 }
 
-#[derive(Drop)]
+#[derive(Clone, Copy)]
 struct DeltaStepped {
     cursor: DeltaCursor,
     answer: NextI64,
 }
 
-#[derive(Drop)]
+#[derive(Clone, Copy)]
 struct BooleanStepped {
     cursor: BooleanCursor,
     answer: NextU8,

@@ -18,7 +18,7 @@ mod texts;
 // A number that was read and the position behind it; or a refusal. In every answer `number` is 0 where the call was accepted and else the
 // refusal's, `place` is the refusal's, and the other values of a refusal are 0.
 #[repr(C)]
-#[derive(Drop)]
+#[derive(Clone, Copy)]
 pub struct NumberU64 {
     pub number: u8,
     pub place: usize,
@@ -27,7 +27,7 @@ pub struct NumberU64 {
 }
 
 #[repr(C)]
-#[derive(Drop)]
+#[derive(Clone, Copy)]
 pub struct NumberI64 {
     pub number: u8,
     pub place: usize,
@@ -36,7 +36,7 @@ pub struct NumberI64 {
 }
 
 #[repr(C)]
-#[derive(Drop)]
+#[derive(Clone, Copy)]
 pub struct NumberU32 {
     pub number: u8,
     pub place: usize,
@@ -46,7 +46,7 @@ pub struct NumberU32 {
 
 // How many readings a column has, or how many bytes were written or would be.
 #[repr(C)]
-#[derive(Drop)]
+#[derive(Clone, Copy)]
 pub struct Counted {
     pub number: u8,
     pub place: usize,
@@ -55,7 +55,7 @@ pub struct Counted {
 
 // What survives of a column: how many readings before its first fault, and that fault, which is no refusal of the call: 0 and 0 of a sound column.
 #[repr(C)]
-#[derive(Drop)]
+#[derive(Clone, Copy)]
 pub struct Survey {
     pub fault: u8,
     pub place: usize,
@@ -64,7 +64,7 @@ pub struct Survey {
 
 // What a salvage came to. `number` and `place` are the call's own refusal, as everywhere; `fault` and `fault_place` are the column's.
 #[repr(C)]
-#[derive(Drop)]
+#[derive(Clone, Copy)]
 pub struct Salvaged {
     pub number: u8,
     pub fault: u8,
@@ -76,7 +76,7 @@ pub struct Salvaged {
 
 // An entry of the pen's log: its kind, 1 to 4, its position in the list, the depth where it has one, and the position of the log behind it.
 #[repr(C)]
-#[derive(Drop)]
+#[derive(Clone, Copy)]
 pub struct Entry {
     pub number: u8,
     pub kind: u8,
@@ -88,7 +88,7 @@ pub struct Entry {
 
 // What a replay came to: how many readings the final list has, and how many bytes were written.
 #[repr(C)]
-#[derive(Drop)]
+#[derive(Clone, Copy)]
 pub struct Replayed {
     pub number: u8,
     pub place: usize,
@@ -98,7 +98,7 @@ pub struct Replayed {
 
 // Whether a column is in our form: `ours` is 1, or 0 and `differs` the place of the first byte that differs.
 #[repr(C)]
-#[derive(Drop)]
+#[derive(Clone, Copy)]
 pub struct Form {
     pub number: u8,
     pub ours: u8,
@@ -115,7 +115,7 @@ pub struct Form {
 // add up to, its high and low 64 bits, and how many bytes of data there are (`first`, `second`, `third`). What does not apply is 0 under a `facts`, `sign` or `about`
 // that says so.
 #[repr(C)]
-#[derive(Drop)]
+#[derive(Clone, Copy)]
 pub struct Reason {
     pub number: u8,
     pub fault: u8,
@@ -138,7 +138,7 @@ pub struct Reason {
 // What comes next in a column that is read a reading at a time: `what` is 1 for a present reading, which has a value, 2 for an absent one and
 // 3 for the end of the column. A refusal has 0 there, as everywhere, so it cannot be taken for the end.
 #[repr(C)]
-#[derive(Drop)]
+#[derive(Clone, Copy)]
 pub struct NextU64 {
     pub number: u8,
     pub what: u8,
@@ -147,7 +147,7 @@ pub struct NextU64 {
 }
 
 #[repr(C)]
-#[derive(Drop)]
+#[derive(Clone, Copy)]
 pub struct NextI64 {
     pub number: u8,
     pub what: u8,
@@ -156,7 +156,7 @@ pub struct NextI64 {
 }
 
 #[repr(C)]
-#[derive(Drop)]
+#[derive(Clone, Copy)]
 pub struct NextU8 {
     pub number: u8,
     pub what: u8,
@@ -166,7 +166,7 @@ pub struct NextU8 {
 
 // A piece of such a column: what comes next as above, and how many times it stands there at once, one at least; 0 for the end and a refusal.
 #[repr(C)]
-#[derive(Drop)]
+#[derive(Clone, Copy)]
 pub struct PieceU64 {
     pub number: u8,
     pub what: u8,
@@ -177,7 +177,7 @@ pub struct PieceU64 {
 
 // The readings of a delta column's piece: the first, and by how much each one behind it is larger.
 #[repr(C)]
-#[derive(Drop)]
+#[derive(Clone, Copy)]
 pub struct PieceI64 {
     pub number: u8,
     pub what: u8,
@@ -188,7 +188,7 @@ pub struct PieceI64 {
 }
 
 #[repr(C)]
-#[derive(Drop)]
+#[derive(Clone, Copy)]
 pub struct PieceU8 {
     pub number: u8,
     pub what: u8,
@@ -198,7 +198,7 @@ pub struct PieceU8 {
 }
 
 #[repr(C)]
-#[derive(Drop)]
+#[derive(Clone, Copy)]
 pub struct Specification {
     pub number: u8,
     pub place: usize,
@@ -207,7 +207,7 @@ pub struct Specification {
 
 // Where a column lies in its block.
 #[repr(C)]
-#[derive(Drop)]
+#[derive(Clone, Copy)]
 pub struct Part {
     pub number: u8,
     pub place: usize,
@@ -218,7 +218,7 @@ pub struct Part {
 // Which of two blocks shows a column: `block` is 1 for the corrections, 2 for the first scan and 0 where neither has the row. Where it lies there; or the
 // refusal of the table of that block.
 #[repr(C)]
-#[derive(Drop)]
+#[derive(Clone, Copy)]
 pub struct Layered {
     pub number: u8,
     pub block: u8,
@@ -229,7 +229,7 @@ pub struct Layered {
 
 // Where the new column of a new block goes, and how long the block is.
 #[repr(C)]
-#[derive(Drop)]
+#[derive(Clone, Copy)]
 pub struct Frame {
     pub number: u8,
     pub place: usize,

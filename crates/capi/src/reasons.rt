@@ -14,7 +14,7 @@ use reason::{Count, Told};
 use table_reason::{Row, TableFacts, TableReason, TableTold};
 
 // Which facts, and their numbers.
-#[derive(Drop)]
+#[derive(Clone, Copy)]
 struct Facts {
     which: u8,
     first: u64,
@@ -25,7 +25,7 @@ struct Facts {
 }
 
 // A count's sign, 0 where none was read, and its size.
-#[derive(Drop)]
+#[derive(Clone, Copy)]
 struct Signed {
     sign: u8,
     size: u64,

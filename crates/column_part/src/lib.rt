@@ -1,4 +1,6 @@
 // A column's part of its block, by position and by specification: where it lies, and the part itself. Nothing is copied.
+#![tactic(auto)]
+
 ghost use Rattle.std.specs.Prelude.{◌≡◌, ◌<◌, ◌≤◌, ◌^◌, length, get_or, take};
 ghost use Rattle.raw_column.specs.Table.{sum};
 ghost use Rattle.column_part.specs.Part.{start_of, no_part, row_part, row_of, part_at, part_for, bytes_of};
@@ -6,7 +8,7 @@ ghost use Rattle.column_part.specs.Part.{start_of, no_part, row_part, row_of, pa
 use raw_column::{Table, read_table};
 
 // Where a column lies in its block, and its specification; or a refusal's number and place, and an empty part.
-#[derive(Drop)]
+#[derive(Clone, Copy)]
 pub struct Part {
     pub number: u8,
     pub place: usize,

@@ -1,5 +1,7 @@
 // Why a column was refused: number and place as the ordinary call has them; the run at fault by its index, the byte where it begins and the count there; the
 // index of the reading at fault; and the facts that make the refusal true. In passes over the bytes, whatever the counts say.
+#![tactic(auto)]
+
 ghost use Rattle.std.specs.Prelude.{◌≡◌};
 ghost use Rattle.reason.specs.Cases.{count_of, facts_of, told_of};
 ghost use Rattle.reason.specs.Columns.{answered, column_reason};

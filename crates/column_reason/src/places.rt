@@ -11,7 +11,7 @@ use leb128::ParsedU64;
 use runs::{RunEnd, Values};
 
 // A run by its index, the byte where it begins, and how many readings come before it.
-#[derive(Drop)]
+#[derive(Clone, Copy)]
 pub(crate) struct RunPlace {
     pub(crate) run: u64,
     pub(crate) at: usize,

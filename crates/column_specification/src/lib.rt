@@ -7,7 +7,7 @@ ghost use Rattle.column_specification.specs.TypeNumber.{type_number};
 ghost use Rattle.column_specification.specs.Specification.{pack, id_of, type_of, compressed_of};
 ghost use Rattle.column_specification.specs.Key.{key};
 
-#[derive(Drop)]
+#[derive(Clone, Copy)]
 pub enum ColumnType {
     Group,
     Actor,
@@ -19,11 +19,11 @@ pub enum ColumnType {
     Value,
 }
 
-#[derive(Drop)]
+#[derive(Clone, Copy)]
 pub struct ColumnSpec(pub u32);
 
 // A specification, or a refusal's number and place.
-#[derive(Drop)]
+#[derive(Clone, Copy)]
 pub enum Packed {
     Spec(ColumnSpec),
     Refused(u8, usize),

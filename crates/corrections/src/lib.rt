@@ -6,7 +6,7 @@ ghost use Rattle.corrections.specs.Over.{over, bytes_over};
 use column_part::{Part, locate_spec};
 
 // The part in the corrections or in the first scan, or the refusal of that block's table; or that neither has the row.
-#[derive(Drop)]
+#[derive(Clone, Copy)]
 pub enum Layered {
     Corrections(Part),
     First(Part),

@@ -7,7 +7,7 @@ ghost use Rattle.count_place.specs.Place.{standing};
 use leb128::magnitude;
 
 // The position behind an encoding that stands there; or the place of its first byte that does not.
-#[derive(Drop)]
+#[derive(Clone, Copy)]
 pub enum Place {
     Behind(usize),
     Differs(usize),

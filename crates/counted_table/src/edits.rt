@@ -8,7 +8,7 @@ use splice::{End, Spliced};
 
 // The new block's length and its table, the new column's count stored; or a refusal's number and place, and the table as it was lent.
 #[repr(C)]
-#[derive(Drop)]
+#[derive(Clone, Copy)]
 pub struct CountedSpliced {
     pub number: u8,
     pub place: usize,

@@ -16,7 +16,7 @@ mod typed;
 
 // The rows of a block's table, and how many readings the column of each has: `counts` where `known` is not 0. Unused places are 0.
 #[repr(C)]
-#[derive(Drop)]
+#[derive(Clone, Copy)]
 pub struct CountedTable {
     pub table: Table,
     pub counts: [u64; 64],
@@ -25,7 +25,7 @@ pub struct CountedTable {
 
 // Such a table, of which no count is known, and where the data behind it begin; or a refusal's number and place, and a table of no rows.
 #[repr(C)]
-#[derive(Drop)]
+#[derive(Clone, Copy)]
 pub struct CountedOpened {
     pub number: u8,
     pub place: usize,
@@ -35,7 +35,7 @@ pub struct CountedOpened {
 
 // How many readings a column has, and the table with that stored; or a refusal's number and place, and the table as it was lent.
 #[repr(C)]
-#[derive(Drop)]
+#[derive(Clone, Copy)]
 pub struct CountedColumn {
     pub number: u8,
     pub place: usize,
@@ -44,7 +44,7 @@ pub struct CountedColumn {
 }
 
 // A count that a row carries.
-#[derive(Drop)]
+#[derive(Clone, Copy)]
 enum Stored {
     Known(u64),
     Unknown,

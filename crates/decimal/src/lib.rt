@@ -1,12 +1,14 @@
 // Decimal text, and the numbers and readings that it stands for. A signed reading z is kept as z + 2^63, so that readings of every kind are
 // one kind of number, in their order.
+#![tactic(auto)]
+
 ghost use Rattle.std.specs.Prelude.{◌≡◌};
 ghost use Rattle.decimal.specs.Text.{with_digit, decimal_of, raised_of, lowered_of, plain_of, outside_of, signed_of, unsigned_of};
 
 pub const HALF: u64 = 9223372036854775808;
 
 // What decimal digits stand for.
-#[derive(Drop)]
+#[derive(Clone, Copy)]
 pub enum Decimal {
     Value(u64),
     NoNumber,
@@ -14,7 +16,7 @@ pub enum Decimal {
 }
 
 // A reading as it is given.
-#[derive(Drop)]
+#[derive(Clone, Copy)]
 pub enum Reading {
     Value(u64),
     Absent,

@@ -1,6 +1,8 @@
 // A delta column read a reading at a time, as the decoder behind the crate's columnar/column_range/delta.rs, an iterator, reads it: the host
 // keeps a small state beside the column's bytes and lends it. No slots and no copy; a call costs the bytes that it passes, whatever the counts
 // say.
+#![tactic(auto)]
+
 ghost use Rattle.std.specs.Prelude.{◌≡◌, ◌+◌, ◌≤◌, ◌<◌, ◌+ℤ◌, length};
 ghost use Rattle.leb128.specs.Read.{i64_at};
 ghost use Rattle.encoding.specs.Limit.{limit};
@@ -25,7 +27,7 @@ const LITERAL: u64 = 2;
 
 // The state that the host keeps; any numbers are one.
 #[repr(C)]
-#[derive(Drop)]
+#[derive(Clone, Copy)]
 pub struct DeltaCursor {
     // The length of the column that it was made for.
     pub len: usize,
@@ -45,7 +47,7 @@ pub struct DeltaCursor {
 }
 
 // The next reading, present with its value or absent; the end of the column; or a refusal's number and place.
-#[derive(Drop)]
+#[derive(Clone, Copy)]
 pub enum DeltaAnswer {
     Present(i64),
     Absent,
@@ -54,14 +56,14 @@ pub enum DeltaAnswer {
 }
 
 // The state behind a step, and what the step answers.
-#[derive(Drop)]
+#[derive(Clone, Copy)]
 pub struct DeltaStepped {
     pub cursor: DeltaCursor,
     pub answer: DeltaAnswer,
 }
 
 // A state's numbers but for the length and the sum.
-#[derive(Drop)]
+#[derive(Clone, Copy)]
 struct Differences {
     at: usize,
     had: u64,
@@ -72,7 +74,7 @@ struct Differences {
 }
 
 // Where it comes to; or the column is over, or has a fault, before that.
-#[derive(Drop)]
+#[derive(Clone, Copy)]
 enum Reached {
     On(Differences),
     Over,
@@ -80,7 +82,7 @@ enum Reached {
 }
 
 // A sum that an i64 holds, or one that leaves it.
-#[derive(Drop)]
+#[derive(Clone, Copy)]
 enum Sum {
     Is(i64),
     Outside,

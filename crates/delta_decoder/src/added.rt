@@ -10,14 +10,14 @@ use crate::sums::{ALL, Sum, add};
 use leb128::{ParsedI64, magnitude};
 
 // The sum with the difference, and the position behind it; or the refusal.
-#[derive(Drop)]
+#[derive(Clone, Copy)]
 pub(crate) enum Added {
     To(u64, usize),
     Off(u8, usize),
 }
 
 // The same of a difference of one or two bytes that cannot lead out of i64; or that it is another.
-#[derive(Drop)]
+#[derive(Clone, Copy)]
 pub(crate) enum Near {
     To(u64, usize),
     Other,

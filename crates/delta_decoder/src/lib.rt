@@ -30,7 +30,7 @@ use encoding::{Answer, Head, Survey};
 use leb128::ParsedI64;
 
 // Behind a run: the next position, how many readings came so far, and their sum; or the run's fault.
-#[derive(Drop)]
+#[derive(Clone, Copy)]
 enum Step {
     On(usize, u64, u64),
     Off(u8, usize),

@@ -10,7 +10,7 @@ pub(crate) const ALL: u64 = 18446744073709551615;
 // The sum 0.
 pub const HALF: u64 = 9223372036854775808;
 
-#[derive(Drop)]
+#[derive(Clone, Copy)]
 pub(crate) enum Sum {
     Is(u64),
     Outside,

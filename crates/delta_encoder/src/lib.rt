@@ -1,6 +1,8 @@
 // Writing a list of optional i64 as a delta column (the encoder behind the crate's columnar/column_range/delta.rs): the stretches of its
 // differences found by looking ahead over the lent list, once for their size and once to write them. No difference is kept: each is taken
 // from the last value that was present.
+#![tactic(auto)]
+
 ghost use Rattle.std.specs.Prelude.{◌≡◌, true, ◌+◌, ◌-◌, ◌*◌, ◌≤◌, ◌<◌, pos, ◌-ℤ◌, length, get_or};
 ghost use Rattle.std.proofs.lemmas.List.Edits.{sets};
 ghost use Rattle.std.proofs.Math.Seq.{slice};
@@ -27,7 +29,7 @@ const ORIGIN: i64 = 0;
 const QUARTER: u64 = 4611686018427387904;
 
 // Does an i64 hold every difference of a list? If not, the index of the first that it does not hold.
-#[derive(Drop)]
+#[derive(Clone, Copy)]
 enum Width {
     Narrow,
     Wide(usize),

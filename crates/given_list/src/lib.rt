@@ -11,7 +11,7 @@ ghost use Rattle.given_list.specs.Cases.{flags_of};
 use encoding::{Answer, LIMIT};
 
 // Are all presence bytes 0 or 1? If not, the first that is not.
-#[derive(Drop)]
+#[derive(Clone, Copy)]
 enum Flags {
     Good,
     Bad(usize),

@@ -1,4 +1,6 @@
 // The check of a given list of names: its three slices, each pair within the lent bytes, each name UTF-8.
+#![tactic(auto)]
+
 ghost use Rattle.std.specs.Prelude.{◌≡◌, true, length};
 ghost use Rattle.std.proofs.Math.Option.{none};
 ghost use Rattle.encoding.specs.Cases.{answer_of};
@@ -9,7 +11,7 @@ ghost use Rattle.text.specs.Given.{name_list, good_pair, bad_pair, good_text, ba
 use encoding::{Answer, LIMIT};
 
 // Is anything bad? If so, the first index.
-#[derive(Drop)]
+#[derive(Clone, Copy)]
 enum Bad {
     Nothing,
     At(usize),

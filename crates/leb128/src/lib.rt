@@ -10,19 +10,19 @@ ghost use Rattle.leb128.specs.Short.{short, entry_of, i64_by};
 ghost use Rattle.leb128.specs.Sound.{Sound};
 
 // A number and the position behind it; or a refusal's number and place.
-#[derive(Drop)]
+#[derive(Clone, Copy)]
 pub enum ParsedU64 {
     Number(u64, usize),
     Refused(u8, usize),
 }
 
-#[derive(Drop)]
+#[derive(Clone, Copy)]
 pub enum ParsedI64 {
     Number(i64, usize),
     Refused(u8, usize),
 }
 
-#[derive(Drop)]
+#[derive(Clone, Copy)]
 pub enum ParsedU32 {
     Number(u32, usize),
     Refused(u8, usize),

@@ -10,7 +10,7 @@ ghost use Rattle.leb128_writer.specs.Cases.{written_of};
 use leb128::magnitude;
 
 // The position behind what was written; or a refusal's number and place.
-#[derive(Drop)]
+#[derive(Clone, Copy)]
 pub enum Written {
     Next(usize),
     Refused(u8, usize),

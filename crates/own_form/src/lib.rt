@@ -1,7 +1,7 @@
 // Whether a column is in the form that our writer gives: its definitions and laws, and the answer.
 
 // In our form; in another, first differing at a place; or a refusal's number and place.
-#[derive(Drop)]
+#[derive(Clone, Copy)]
 pub enum Form {
     Ours,
     Other(usize),

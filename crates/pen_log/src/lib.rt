@@ -17,7 +17,7 @@ use delta_decoder::sums::HALF;
 use encoding::{Answer, LIMIT};
 
 // An entry: its position, the depth where it has one, and the position of the log behind it; or refusal 23.
-#[derive(Drop)]
+#[derive(Clone, Copy)]
 pub enum LogEntry {
     Insert(u32, i64, usize),
     InsertAbsent(u32, usize),
@@ -27,14 +27,14 @@ pub enum LogEntry {
 }
 
 // How many readings the final list has, and how many bytes were written; or a refusal's number and place.
-#[derive(Drop)]
+#[derive(Clone, Copy)]
 pub enum Replayed {
     Written(u64, usize),
     Refused(u8, usize),
 }
 
 // An entry as a splice: the readings from start up to end give way to as many new ones as `new` says, none or one.
-#[derive(Drop)]
+#[derive(Clone, Copy)]
 struct Span {
     start: usize,
     end: usize,
@@ -44,14 +44,14 @@ struct Span {
     next: usize,
 }
 
-#[derive(Drop)]
+#[derive(Clone, Copy)]
 enum Spanned {
     At(Span),
     Refused(u8, usize),
 }
 
 // Behind an entry: the position in the log, and the list's length; or the refusal.
-#[derive(Drop)]
+#[derive(Clone, Copy)]
 enum Step {
     On(usize, usize),
     Off(u8, usize),

@@ -1,5 +1,7 @@
 // What a picture of readings shows: the scale of depths, for each place across the range of the readings that it stands for, and what stands
 // where a place and a row meet.
+#![tactic(auto)]
+
 mod scales;
 mod shades;
 mod stretches;
@@ -9,7 +11,7 @@ pub use shades::shade_at;
 pub use stretches::{nothing, with_reading};
 
 // The least and the greatest of the present readings of a stretch, and how many are present and absent.
-#[derive(Drop)]
+#[derive(Clone, Copy)]
 pub struct Stretch {
     pub low: u64,
     pub high: u64,
@@ -18,7 +20,7 @@ pub struct Stretch {
 }
 
 // The depths that a picture shows: from `base` on, a row for each `step`. Across, a place for each `per` readings.
-#[derive(Drop)]
+#[derive(Clone, Copy)]
 pub struct Scale {
     pub base: u64,
     pub step: u64,

@@ -5,14 +5,14 @@ ghost use Rattle.pieces.specs.Boolean.{taken, piece_of};
 use boolean_cursor::{BooleanAnswer, BooleanCursor};
 
 // The next reading and how many times it stands there, once at least; or the end or a refusal, with no times.
-#[derive(Drop)]
+#[derive(Clone, Copy)]
 pub struct BooleanPiece {
     pub answer: BooleanAnswer,
     pub times: u64,
 }
 
 // The state behind a piece, and the piece.
-#[derive(Drop)]
+#[derive(Clone, Copy)]
 pub struct BooleanTaken {
     pub cursor: BooleanCursor,
     pub piece: BooleanPiece,

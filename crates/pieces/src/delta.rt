@@ -15,7 +15,7 @@ const REPEAT: u64 = 1;
 
 // The next reading, by how much each one behind it in the piece is larger, and how many there are, one at least; or the end or a refusal, with no
 // times. Absent readings have the difference 0.
-#[derive(Drop)]
+#[derive(Clone, Copy)]
 pub struct DeltaPiece {
     pub answer: DeltaAnswer,
     pub difference: i64,
@@ -23,7 +23,7 @@ pub struct DeltaPiece {
 }
 
 // The state behind a piece, and the piece.
-#[derive(Drop)]
+#[derive(Clone, Copy)]
 pub struct DeltaTaken {
     pub cursor: DeltaCursor,
     pub piece: DeltaPiece,

@@ -8,14 +8,14 @@ use rle_cursor::{RleAnswer, RleCursor};
 const LITERAL: u64 = 2;
 
 // The next reading and how many times it stands there, once at least; or the end or a refusal, with no times.
-#[derive(Drop)]
+#[derive(Clone, Copy)]
 pub struct RlePiece {
     pub answer: RleAnswer,
     pub times: u64,
 }
 
 // The state behind a piece, and the piece.
-#[derive(Drop)]
+#[derive(Clone, Copy)]
 pub struct RleTaken {
     pub cursor: RleCursor,
     pub piece: RlePiece,

@@ -10,7 +10,7 @@ use leb128::{ParsedU32, ParsedU64};
 
 // A table: each row's specification, where its column begins in the data, and its length; unused places are 0. The boundary hands it out as it is.
 #[repr(C)]
-#[derive(Drop)]
+#[derive(Clone, Copy)]
 pub struct Table {
     pub specs: [u32; 64],
     pub starts: [u64; 64],
@@ -20,7 +20,7 @@ pub struct Table {
 
 // A table and where the data behind it begin; or a refusal's number and place, and a table of no rows. The number is 0 where there is none.
 #[repr(C)]
-#[derive(Drop)]
+#[derive(Clone, Copy)]
 pub struct Opened {
     pub number: u8,
     pub place: usize,
@@ -29,7 +29,7 @@ pub struct Opened {
 }
 
 // How many rows a table has, and where they begin; or a refusal.
-#[derive(Drop)]
+#[derive(Clone, Copy)]
 struct Count {
     number: u8,
     place: usize,
@@ -38,7 +38,7 @@ struct Count {
 }
 
 // A row, and the position behind it; or a refusal.
-#[derive(Drop)]
+#[derive(Clone, Copy)]
 struct Row {
     number: u8,
     place: usize,

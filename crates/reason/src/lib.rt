@@ -1,9 +1,11 @@
 // Why a column was refused: its definitions and laws, the answers of the calls, and how many bytes of a number are there.
+#![tactic(auto)]
+
 ghost use Rattle.std.specs.Prelude.{◌≡◌, drop};
 ghost use Rattle.reason.specs.Reason.{number_bytes};
 
 // The count at the byte where a run begins: none was read; or a sign and a number.
-#[derive(Drop)]
+#[derive(Clone, Copy)]
 pub enum Count {
     Unread,
     Plus(u64),
@@ -12,7 +14,7 @@ pub enum Count {
 
 // The facts that make a refusal true: how many bytes of the number at the place are there; a name's length, and how many bytes are there for it;
 // the readings before the run, and how many its count asks for; the sum before, and the delta.
-#[derive(Drop)]
+#[derive(Clone, Copy)]
 pub enum Facts {
     Bytes(u64),
     Name(u64, u64),
@@ -22,7 +24,7 @@ pub enum Facts {
 
 // A column's fault by number and place; the run at fault by its index, the byte where it begins and the count there; the index of the reading at
 // fault; and the facts.
-#[derive(Drop)]
+#[derive(Clone, Copy)]
 pub struct Reason {
     pub number: u8,
     pub place: usize,
@@ -34,7 +36,7 @@ pub struct Reason {
 }
 
 // What a call over a column answers: the reason of its fault; that it has none; or a refusal of the call's own.
-#[derive(Drop)]
+#[derive(Clone, Copy)]
 pub enum Told {
     Because(Reason),
     Faultless,

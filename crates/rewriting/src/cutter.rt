@@ -13,7 +13,7 @@ use runs::walk::Held;
 
 // What is known of the list so far: the bytes spent, or 10; whether a value came; how many values of a literal stretch are open, their bytes spent
 // but not their count; and the reading that is held, with how many times it came.
-#[derive(Drop)]
+#[derive(Clone, Copy)]
 pub(crate) struct Cutter {
     pub used: Answer,
     pub any: bool,
@@ -23,7 +23,7 @@ pub(crate) struct Cutter {
 }
 
 // What is open behind a reading that is closed.
-#[derive(Drop)]
+#[derive(Clone, Copy)]
 pub(crate) struct Shut {
     pub used: Answer,
     pub literals: u64,

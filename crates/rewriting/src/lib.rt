@@ -19,7 +19,7 @@ use runs::walk::Held;
 use runs::{ValueEnd, Values, value_end};
 
 // Behind some readings of a column: the position of the next run, the column's length where none follows, and how many readings came before it.
-#[derive(Drop)]
+#[derive(Clone, Copy)]
 struct Fed {
     cutter: Cutter,
     at: usize,

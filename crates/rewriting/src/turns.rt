@@ -12,7 +12,7 @@ use encoding::{Answer, LIMIT};
 use leb128::ParsedU64;
 
 // What is known of the list so far: the bytes spent, or 10; the byte that is held, and how many times it came.
-#[derive(Drop)]
+#[derive(Clone, Copy)]
 struct Turner {
     used: Answer,
     flag: u8,

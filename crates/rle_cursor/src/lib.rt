@@ -1,5 +1,7 @@
 // A run-length column of optional u64 read a reading at a time, as the crate's RleDecoder, an iterator, reads it: the host keeps a small
 // state beside the column's bytes and lends it. No slots and no copy; a call costs the bytes that it passes, whatever the counts say.
+#![tactic(auto)]
+
 ghost use Rattle.std.specs.Prelude.{◌≡◌, ◌+◌, ◌≤◌, ◌<◌, length};
 ghost use Rattle.leb128.specs.Read.{u64_at};
 ghost use Rattle.encoding.specs.Limit.{limit};
@@ -20,7 +22,7 @@ const LITERAL: u64 = 2;
 
 // The state that the host keeps; any numbers are one.
 #[repr(C)]
-#[derive(Drop)]
+#[derive(Clone, Copy)]
 pub struct RleCursor {
     // The length of the column that it was made for.
     pub len: usize,
@@ -38,7 +40,7 @@ pub struct RleCursor {
 }
 
 // The next reading, present with its value or absent; the end of the column; or a refusal's number and place.
-#[derive(Drop)]
+#[derive(Clone, Copy)]
 pub enum RleAnswer {
     Present(u64),
     Absent,
@@ -47,14 +49,14 @@ pub enum RleAnswer {
 }
 
 // The state behind a step, and what the step answers.
-#[derive(Drop)]
+#[derive(Clone, Copy)]
 pub struct RleStepped {
     pub cursor: RleCursor,
     pub answer: RleAnswer,
 }
 
 // A state that is reached; or the column is over, or has a fault, before it.
-#[derive(Drop)]
+#[derive(Clone, Copy)]
 enum Reached {
     On(RleCursor),
     Over,

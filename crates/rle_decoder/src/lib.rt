@@ -20,7 +20,7 @@ use encoding::{Answer, Head, Survey};
 use leb128::ParsedU64;
 
 // Behind a run: the next position and how many readings came so far; or the run's fault.
-#[derive(Drop)]
+#[derive(Clone, Copy)]
 enum Step {
     On(usize, u64),
     Off(u8, usize),

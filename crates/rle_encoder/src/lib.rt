@@ -1,5 +1,7 @@
 // Writing a list of optional u64 as a run-length column (the encoder of the crate's columnar/encoding/rle.rs): its stretches found by
 // looking ahead over the lent list, once for their size and once to write them.
+#![tactic(auto)]
+
 ghost use Rattle.std.specs.Prelude.{◌≡◌, ◌+◌, ◌-◌, ◌*◌, ◌≤◌, ◌<◌, eqb, length, get_or};
 ghost use Rattle.std.proofs.lemmas.List.Edits.{sets};
 ghost use Rattle.std.proofs.Math.Seq.{slice};

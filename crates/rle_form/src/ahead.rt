@@ -13,7 +13,7 @@ use runs::Values;
 use runs::walk::{Held, Piece, advanced, is_absent};
 
 // So many readings, and the piece behind them.
-#[derive(Drop)]
+#[derive(Clone, Copy)]
 struct Passed {
     count: u64,
     piece: Piece,

@@ -23,14 +23,14 @@ use runs::walk::{advanced, first, is_absent};
 use runs::{RunEnd, Values};
 
 // Soundly, or with a fault's number and place.
-#[derive(Drop)]
+#[derive(Clone, Copy)]
 enum Ended {
     Soundly,
     Faulty(u8, usize),
 }
 
 // Behind a run that is the writer's next stretch: the next position and how many readings came so far; or the place at which the two differ.
-#[derive(Drop)]
+#[derive(Clone, Copy)]
 enum Turn {
     On(usize, u64),
     Differs(usize),

@@ -1,4 +1,6 @@
 // A run-length column walked run by run, whatever its values are: where a value ends, and what comes behind a run. Nothing is kept of the values.
+#![tactic(auto)]
+
 ghost use Rattle.std.specs.Prelude.{◌≡◌, ◌+◌, ◌≤◌};
 ghost use Rattle.encoding.specs.Column.{spot, repeated, literals, run_at};
 ghost use Rattle.encoding.specs.Limit.{limit};
@@ -12,7 +14,7 @@ use leb128::{ParsedI64, ParsedU64};
 use text_decoder::Name;
 
 // What the values of a run-length column are: unsigned numbers, the differences of a delta column, or names.
-#[derive(Drop)]
+#[derive(Clone, Copy)]
 pub enum Values {
     Words,
     Differences,
@@ -20,14 +22,14 @@ pub enum Values {
 }
 
 // The position behind a value; or its refusal's number and place.
-#[derive(Drop)]
+#[derive(Clone, Copy)]
 pub enum ValueEnd {
     At(usize),
     Refused(u8, usize),
 }
 
 // Behind a run: the column is over before it; the next position and how many readings came so far; or the run's fault.
-#[derive(Drop)]
+#[derive(Clone, Copy)]
 pub enum RunEnd {
     Over,
     On(usize, u64),

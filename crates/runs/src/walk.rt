@@ -10,7 +10,7 @@ use crate::{ValueEnd, Values, value_end};
 use encoding::Head;
 
 // A reading: absent, or a value whose bytes stand in the column from one position up to another.
-#[derive(Drop)]
+#[derive(Clone, Copy)]
 pub enum Held {
     Absent,
     Value(usize, usize),
@@ -18,7 +18,7 @@ pub enum Held {
 
 // Where one stands: a reading that is held and how many times it stands here, 0 at the end. Behind it come so many literal values (`left`) from `at` on,
 // and then the run before which there are `had` readings.
-#[derive(Drop)]
+#[derive(Clone, Copy)]
 pub struct Piece {
     pub held: Held,
     pub times: u64,

@@ -2,7 +2,7 @@
 
 // How many readings were kept, how many bytes were written, and the column's first fault by number and place, 0 and 0 of a sound column; or the call's
 // own refusal.
-#[derive(Drop)]
+#[derive(Clone, Copy)]
 pub enum Salvaged {
     Saved(u64, usize, u8, usize),
     Refused(u8, usize),

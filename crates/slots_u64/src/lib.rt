@@ -1,4 +1,6 @@
 // Replacing a range of a list of u64 in lent slots, in place.
+#![tactic(auto)]
+
 ghost use Rattle.std.specs.Prelude.{◌≡◌, ◌+◌, ◌-◌, ◌≤◌, ◌<◌, length, take, drop, replicate};
 ghost use Rattle.std.proofs.Math.Seq.{paste};
 ghost use Rattle.encoding.specs.Cases.{answer_of};

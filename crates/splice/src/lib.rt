@@ -14,7 +14,7 @@ mod lent;
 
 // The new block's table and length, and how many readings its new column has; or a refusal's number and place, and a table of no rows. The number
 // is 0 where there is none.
-#[derive(Drop)]
+#[derive(Clone, Copy)]
 pub struct Spliced {
     pub number: u8,
     pub place: usize,
@@ -24,7 +24,7 @@ pub struct Spliced {
 }
 
 // The kinds of column that edits serve.
-#[derive(Drop)]
+#[derive(Clone, Copy)]
 pub enum ColumnKind {
     Integer,
     Delta,
@@ -33,21 +33,21 @@ pub enum ColumnKind {
 }
 
 // Where a range of readings ends: before the reading at an index, or where the list does.
-#[derive(Drop)]
+#[derive(Clone, Copy)]
 pub enum End {
     At(usize),
     OfList,
 }
 
 // Where a row's column begins and ends in its block; or a refusal.
-#[derive(Drop)]
+#[derive(Clone, Copy)]
 enum Row {
     At(usize, usize),
     Refused(u8, usize),
 }
 
 // What is known of an edit that is ready: where its column begins and ends in the block, and how long the old list is and the new one.
-#[derive(Drop)]
+#[derive(Clone, Copy)]
 pub struct Found {
     pub at: usize,
     pub till: usize,
@@ -56,7 +56,7 @@ pub struct Found {
 }
 
 // An edit that no check stops before the slots are filled; or a refusal.
-#[derive(Drop)]
+#[derive(Clone, Copy)]
 pub enum Planned {
     Ready(Found),
     Refused(u8, usize),

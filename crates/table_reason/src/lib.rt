@@ -1,4 +1,6 @@
 // Why the table of a block was refused: which row, and the facts that make the refusal true.
+#![tactic(auto)]
+
 ghost use Rattle.std.specs.Prelude.{◌≡◌, ◌+◌, ◌*◌, ◌^◌, ◌≤◌, length, take};
 ghost use Rattle.raw_column.specs.Table.{sum, rows_at};
 ghost use Rattle.table_reason.specs.TableReason.{because, rows_read, first_fall, first_compressed, unread, lengths_reason, judged_reason, rows_reason, table_reason};
@@ -9,7 +11,7 @@ use column_specification::ColumnSpec;
 use leb128::{ParsedU32, ParsedU64};
 
 // The row at fault, or that none is named.
-#[derive(Drop)]
+#[derive(Clone, Copy)]
 pub enum Row {
     Nowhere,
     At(u64),
@@ -18,7 +20,7 @@ pub enum Row {
 // The facts that make a refusal true: how many bytes of the number at the place are there; for 11 the count; for 12 the specification before and
 // the one that falls; for 13 the specification; for 14 and 15 what the lengths add up to, its high and its low 64 bits, and how many bytes of data
 // there are.
-#[derive(Drop)]
+#[derive(Clone, Copy)]
 pub enum TableFacts {
     Bytes(u64),
     Columns(u64),
@@ -28,7 +30,7 @@ pub enum TableFacts {
 }
 
 // A table's fault by number and place, the row at fault, and the facts.
-#[derive(Drop)]
+#[derive(Clone, Copy)]
 pub struct TableReason {
     pub number: u8,
     pub place: usize,
@@ -37,14 +39,14 @@ pub struct TableReason {
 }
 
 // The reason of a table's fault; or that it has none.
-#[derive(Drop)]
+#[derive(Clone, Copy)]
 pub enum TableTold {
     Because(TableReason),
     Faultless,
 }
 
 // Rows as they were read, and the position behind them; or a refusal. And how many were read.
-#[derive(Drop)]
+#[derive(Clone, Copy)]
 struct Rows {
     specs: [u32; 64],
     lens: [u64; 64],
@@ -55,7 +57,7 @@ struct Rows {
 }
 
 // A sum that can pass 2^64.
-#[derive(Drop)]
+#[derive(Clone, Copy)]
 struct Sum {
     high: u64,
     low: u64,

@@ -53,7 +53,7 @@ fn behind_values(part: &[u8], kind: Kind, q: usize, c: u64) -> usize {
 }
 
 // How many readings are announced up to the end of a run, and the position behind it, or NO_ROOM where it does not read.
-#[derive(Drop)]
+#[derive(Clone, Copy)]
 struct Run {
     told: usize,
     next: usize,

@@ -6,7 +6,7 @@ use crate::{column, kept, names, refusals, rooms};
 use splice::Spliced;
 
 // How long the new block is, or a refusal's number and place. The number is 0 where there is none.
-#[derive(Drop)]
+#[derive(Clone, Copy)]
 pub struct Edited {
     pub number: u8,
     pub place: usize,

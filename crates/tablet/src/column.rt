@@ -6,7 +6,7 @@ use decimal::Decimal;
 
 // A column that the table has: its position, its specification, and where it begins and ends in its block, which has `size` bytes; or a
 // refusal's number and place. The number is 0 where there is none.
-#[derive(Drop)]
+#[derive(Clone, Copy)]
 pub struct Column {
     pub number: u8,
     pub place: usize,

@@ -13,7 +13,7 @@ use picture::{Scale, Stretch};
 
 // The column that is drawn: its position, and where it was found its specification and its length; and the break behind the readings that are drawn, by
 // the number and place of a refusal. The number is 0 where there is none.
-#[derive(Drop)]
+#[derive(Clone, Copy)]
 pub struct Subject {
     pub found: bool,
     pub position: usize,

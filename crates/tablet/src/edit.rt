@@ -11,7 +11,7 @@ use crate::{apply, column, files, given, help, kinds, pen, range, rooms, walk, w
 use encoding::Answer;
 
 // What is edited: the range, its column's kind, how many readings that has, and whether a file that is there may be replaced.
-#[derive(Drop)]
+#[derive(Clone, Copy)]
 struct Wanted {
     range: Range,
     kind: Kind,

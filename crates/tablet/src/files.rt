@@ -7,7 +7,7 @@ use crate::{pen, words};
 pub const FAILED: usize = usize::MAX;
 
 // What reading a file came to: so many bytes, too many for the room, or an error of the system.
-#[derive(Drop)]
+#[derive(Clone, Copy)]
 enum Got {
     Bytes(usize),
     TooLarge,

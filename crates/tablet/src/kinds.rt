@@ -3,7 +3,7 @@ use crate::pen::Pen;
 use crate::{pen, words};
 use column_specification::ColumnSpec;
 
-#[derive(Drop)]
+#[derive(Clone, Copy)]
 pub enum Kind {
     // optional i64
     Signed,

@@ -9,7 +9,7 @@ use raw_column::Table;
 const NONE: u64 = u64::MAX;
 
 // What was said and written so far: how many bytes of the new table and of the new data, and how many columns.
-#[derive(Drop)]
+#[derive(Clone, Copy)]
 struct Sofar {
     pen: Pen,
     table: usize,

@@ -17,7 +17,7 @@ pub const NO_TEXT: u8 = 4;
 pub const TOO_LONG: u8 = 5;
 
 // A reading so many times; or what is wrong. The fault is 0 where nothing is.
-#[derive(Drop)]
+#[derive(Clone, Copy)]
 struct Item {
     fault: u8,
     value: u64,
@@ -26,7 +26,7 @@ struct Item {
 }
 
 // How many readings there are; or what is wrong with the text from one place up to another.
-#[derive(Drop)]
+#[derive(Clone, Copy)]
 pub struct List {
     pub fault: u8,
     pub count: usize,

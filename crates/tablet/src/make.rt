@@ -12,7 +12,7 @@ use splice::End;
 const STOPPED: usize = usize::MAX;
 
 // The specification that a column's text begins with.
-#[derive(Drop)]
+#[derive(Clone, Copy)]
 enum Spec {
     Is(u32),
     NoColumn,

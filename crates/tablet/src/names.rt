@@ -47,7 +47,7 @@ pub fn survey(part: &[u8]) -> Survey {
 }
 
 // A byte of a name, and how many bytes of the text stand for it; none where they stand for nothing.
-#[derive(Drop)]
+#[derive(Clone, Copy)]
 struct Meant {
     byte: u8,
     len: usize,

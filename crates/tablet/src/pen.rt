@@ -1,14 +1,14 @@
 // Writing: a pen is a descriptor, and whether all that was written so far came through.
 use crate::parts::{after, between, find};
 
-#[derive(Drop)]
+#[derive(Clone, Copy)]
 pub struct Pen {
     pub fd: i32,
     pub ok: bool,
 }
 
 // Where a command writes: what it was asked for, and what went wrong.
-#[derive(Drop)]
+#[derive(Clone, Copy)]
 pub struct Desk {
     pub out: i32,
     pub notes: i32,

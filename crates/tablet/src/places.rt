@@ -10,7 +10,7 @@ use picture::{Scale, Stretch};
 pub const MOST: usize = 680;
 
 // The stretch that was passed, where the walk stands behind it, and the refusal that it met, where it met one.
-#[derive(Drop)]
+#[derive(Clone, Copy)]
 pub struct Passed {
     pub stretch: Stretch,
     pub walk: Walk,

@@ -4,7 +4,7 @@ use crate::{column, words};
 use splice::End;
 
 // The column and the range of its readings.
-#[derive(Drop)]
+#[derive(Clone, Copy)]
 pub struct Range {
     pub position: usize,
     pub start: usize,

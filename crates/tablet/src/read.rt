@@ -16,7 +16,7 @@ fn say_line(p: Pen, kind: Kind, value: u64, here: u8) -> Pen {
 }
 
 // What was said, and the refusal that the walk met, where it met one.
-#[derive(Drop)]
+#[derive(Clone, Copy)]
 struct Said {
     pen: Pen,
     number: u8,

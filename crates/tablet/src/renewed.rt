@@ -5,7 +5,7 @@ use crate::{forms, kinds, parts, saved, walk};
 use encoding::Survey;
 use salvage::Salvaged;
 
-#[derive(Drop)]
+#[derive(Clone, Copy)]
 pub enum Change {
     // It is in our form.
     Ours,
@@ -22,7 +22,7 @@ pub enum Change {
 }
 
 // What became of a column; how many readings it has before its fault; that fault; and how many bytes were written, NO_ROOM where there was no room for them.
-#[derive(Drop)]
+#[derive(Clone, Copy)]
 pub struct Renewed {
     pub change: Change,
     pub readings: u64,

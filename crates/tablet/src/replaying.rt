@@ -7,14 +7,14 @@ use crate::{column, edit, files, help, kept, kinds, numbers, parts, pen, refusal
 use pen_log::{LogEntry, Replayed};
 
 // What was said so far, and where in the log the next entry begins.
-#[derive(Drop)]
+#[derive(Clone, Copy)]
 struct Told {
     pen: Pen,
     at: usize,
 }
 
 // What is replayed: the file's column, how many entries of the log at most, and whether a file that is there may be replaced.
-#[derive(Drop)]
+#[derive(Clone, Copy)]
 struct Wanted {
     column: Column,
     most: usize,

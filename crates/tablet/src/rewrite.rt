@@ -5,7 +5,7 @@ use crate::renewed::{Change, Renewed};
 use crate::{column, files, forms, help, kinds, make, pen, refusals, renewed, rooms, words};
 
 // What was said and written so far: how many bytes of the new table and of the new data, and how many columns do not read.
-#[derive(Drop)]
+#[derive(Clone, Copy)]
 struct Sofar {
     pen: Pen,
     table: usize,

@@ -5,7 +5,7 @@ use crate::pen;
 use leb128::{ParsedU32, ParsedU64};
 
 // A row of a table, and the position behind it.
-#[derive(Drop)]
+#[derive(Clone, Copy)]
 struct Row {
     spec: u32,
     len: u64,
@@ -35,7 +35,7 @@ fn row_at(block: &[u8], at: usize) -> Row {
 }
 
 // How many rows the table has, and where they begin.
-#[derive(Drop)]
+#[derive(Clone, Copy)]
 struct Rows {
     count: u64,
     at: usize,
@@ -68,7 +68,7 @@ fn data_at(block: &[u8], rows: Rows) -> usize {
 }
 
 // A column as its row has it, by its specification and its length, and where what is there of it begins and ends in the block.
-#[derive(Drop)]
+#[derive(Clone, Copy)]
 pub struct Piece {
     pub spec: u32,
     pub len: u64,

@@ -4,7 +4,7 @@ use crate::pen::{Desk, Pen};
 use crate::{fates, files, help, make, pen, refusals, rooms, rows, saved, words};
 
 // What was said and written so far: how many bytes of the new table and of the new data, and how many columns lost something.
-#[derive(Drop)]
+#[derive(Clone, Copy)]
 struct Sofar {
     pen: Pen,
     table: usize,

@@ -5,7 +5,7 @@ use crate::{kinds, parts, rooms, walk};
 use encoding::Survey;
 use salvage::Salvaged;
 
-#[derive(Drop)]
+#[derive(Clone, Copy)]
 pub enum Fate {
     // All its bytes are there, and read.
     Whole,
@@ -23,7 +23,7 @@ pub enum Fate {
 
 // What became of a column; how many of its readings survive; its fault, or why it is lost, by number and place; and how many bytes were written, NO_ROOM
 // where there was no room for them.
-#[derive(Drop)]
+#[derive(Clone, Copy)]
 pub struct Saved {
     pub fate: Fate,
     pub readings: u64,

@@ -4,7 +4,7 @@ use crate::pen::Desk;
 use crate::{commands, files, help, pen, rooms, words};
 
 // How many commands there were, and how many went wrong.
-#[derive(Drop)]
+#[derive(Clone, Copy)]
 struct Tally {
     run: usize,
     wrong: usize,

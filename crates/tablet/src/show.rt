@@ -5,7 +5,7 @@ use crate::{column, files, forms, help, kinds, pen, refusals, rooms, walk, words
 use encoding::Answer;
 
 // What is known while rows are written: the pen, and how many columns do not read.
-#[derive(Drop)]
+#[derive(Clone, Copy)]
 struct Shown {
     pen: Pen,
     bad: usize,

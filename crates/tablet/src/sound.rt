@@ -5,7 +5,7 @@ use crate::{column, files, forms, help, kinds, pen, refusals, rooms, walk, words
 use encoding::Answer;
 
 // A line so far, and whether the file is sound so far.
-#[derive(Drop)]
+#[derive(Clone, Copy)]
 struct Line {
     pen: Pen,
     sound: bool,

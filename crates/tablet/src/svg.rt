@@ -8,7 +8,7 @@ use crate::{draw, kinds, numbers, pen, places, refusals};
 use picture::{Scale, Stretch};
 
 // The height of the picture in units: how many depths a unit has, the height of the trace itself, and all of it.
-#[derive(Drop)]
+#[derive(Clone, Copy)]
 struct Height {
     unit: u64,
     trace: u64,

@@ -11,7 +11,7 @@ use rle_cursor::{RleAnswer, RleCursor, RleStepped};
 pub const LONGEST: u64 = 10000000;
 
 // Where a walk stands.
-#[derive(Drop)]
+#[derive(Clone, Copy)]
 pub enum Walk {
     Signed(DeltaCursor),
     Unsigned(RleCursor),
@@ -21,7 +21,7 @@ pub enum Walk {
 
 // The next reading, its value as it is kept and whether it is present, and where the walk stands behind it; or the walk is over, by the
 // refusal of a number and a place. The number is 0 at the end of the column.
-#[derive(Drop)]
+#[derive(Clone, Copy)]
 pub enum Walked {
     Reading(Walk, u64, u8),
     Over(u8, usize),

@@ -7,7 +7,7 @@ use reason::{Reason, Told};
 use table_reason::{TableReason, TableTold};
 
 // What is known while columns are looked at: the pen, and how many have a fault.
-#[derive(Drop)]
+#[derive(Clone, Copy)]
 struct Asked {
     pen: Pen,
     bad: usize,

@@ -1,5 +1,7 @@
 // Reading a String column, sign names as text: its readings counted in one pass over its bytes, whatever the counts say, or decoded into
 // lent slots, each name as its start and length in the column.
+#![tactic(auto)]
+
 ghost use Rattle.std.specs.Prelude.{◌≡◌, ◌+◌, ◌≤◌, ◌<◌, length, replicate};
 ghost use Rattle.std.proofs.lemmas.List.Edits.{sets};
 ghost use Rattle.leb128.specs.Got.{got};
@@ -20,14 +22,14 @@ use encoding::{Answer, Head, Survey};
 use leb128::ParsedU64;
 
 // Where a name stands: its first byte and its length; or a refusal's number and place.
-#[derive(Drop)]
+#[derive(Clone, Copy)]
 pub enum Name {
     Found(usize, usize),
     Refused(u8, usize),
 }
 
 // Behind a run: the next position and how many readings came so far; or the run's fault.
-#[derive(Drop)]
+#[derive(Clone, Copy)]
 enum Step {
     On(usize, u64),
     Off(u8, usize),

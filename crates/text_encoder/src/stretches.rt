@@ -11,14 +11,14 @@ use crate::walk::{Held, Splicing, advanced, stepped};
 use encoding::StretchEnd;
 
 // So many readings, and the walk behind them.
-#[derive(Drop)]
+#[derive(Clone, Copy)]
 pub(crate) struct Passed {
     pub count: u64,
     pub walk: Splicing,
 }
 
 // A stretch, with how many readings it has, and the walk behind it.
-#[derive(Drop)]
+#[derive(Clone, Copy)]
 pub(crate) struct Found {
     pub stretch: StretchEnd,
     pub walk: Splicing,

@@ -16,7 +16,7 @@ use encoding::Head;
 use leb128::ParsedU64;
 
 // A reading of the list: absent, or a name by its start and length in the old column or in the given bytes.
-#[derive(Drop)]
+#[derive(Clone, Copy)]
 pub(crate) enum Held {
     Absent,
     Old(usize, usize),
@@ -24,7 +24,7 @@ pub(crate) enum Held {
 }
 
 // What is left of a run of the old column: absent readings, a name that repeats (start, length and the place of its number), or literal names.
-#[derive(Drop)]
+#[derive(Clone, Copy)]
 pub(crate) enum TextSort {
     Absent,
     Repeat(usize, usize, usize),
@@ -33,7 +33,7 @@ pub(crate) enum TextSort {
 
 // Where one stands in the old column: the position of what comes next, how many readings come before the next run, how many of the present one
 // are left, and what they are.
-#[derive(Drop)]
+#[derive(Clone, Copy)]
 pub(crate) struct TextCursor {
     pub at: usize,
     pub had: u64,
@@ -42,7 +42,7 @@ pub(crate) struct TextCursor {
 }
 
 // A piece of the old column, and the cursor behind it.
-#[derive(Drop)]
+#[derive(Clone, Copy)]
 pub(crate) struct OldPiece {
     pub held: Held,
     pub times: u64,
@@ -51,7 +51,7 @@ pub(crate) struct OldPiece {
 
 // Where one stands in the list: a reading that is held and how many times it stands here, 0 at the end. Behind it come so many readings of the
 // old column (`before`), the given names from `next` on, and the old column's readings `gap` further on.
-#[derive(Drop)]
+#[derive(Clone, Copy)]
 pub(crate) struct Splicing {
     pub held: Held,
     pub times: u64,

@@ -7,7 +7,7 @@ ghost use Rattle.utf8.specs.Due.{ranges, behind, due_of};
 
 // What may come next: so many more bytes of the character, the first of them from low to high and the others of a tail's range; or the
 // bytes so far are not UTF-8, whatever comes.
-#[derive(Drop)]
+#[derive(Clone, Copy)]
 enum Due {
     Bytes(u8, u8, u8),
     Never,

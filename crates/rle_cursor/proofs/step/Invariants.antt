@@ -1,0 +1,14 @@
+-- `rle_cursor::step` meets its contract: 24; or what is ready from each state that is entered is what is ready from the first. Assumes nothing.
+use Prim.Native.Nat.{◌-◌}
+use mathlib.Core.Path.{◌≡◌}
+use lib.ListN.{length}
+use Rattle.cursor.specs.Cursor.{ready_at}
+use Rattle.rle_decoder.specs.Word.{u64_e}
+use Rattle.rle_cursor.specs.State.{cursor_of}
+use Rattle.rle_cursor.proofs.step.Given as goal
+
+abbrev pub invariant-loop-c : goal.invariant-loop-c
+invariant-loop-c l = ready_at u64_e l.column (cursor_of l.cursor) ≡ ready_at u64_e l.column (cursor_of l.c)
+
+abbrev pub decreases-loop-c : goal.decreases-loop-c
+decreases-loop-c l = length l.column - l.c.at

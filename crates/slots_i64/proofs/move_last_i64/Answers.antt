@@ -1,0 +1,28 @@
+-- `slots_i64::move_last_i64` meets its contract: the last eight elements, or the last one. Assumes nothing.
+use Prim.Native.Nat.{◌+◌, ◌-◌}
+use mathlib.Core.Path.{◌≡◌, ap, ◌∙◌}
+use native.Mathlib.Omega.{arith}
+use lib.IntN.{pos}
+use lib.ListN.{drop}
+use lib.Seq.{paste}
+use borrow.Author.Rules.{sfits_of}
+use Rattle.leb128.proofs.Twos.{same}
+use Rattle.slots.proofs.Blocks.{one}
+use Rattle.slots_i64.proofs.move_last_i64.Goals as goal
+
+pub returns-then-n-ge8 : goal.returns-then-n-ge8
+returns-then-n-ge8 c =
+    let a = c.args in
+    let r = a.n - 8 in
+    let k : 8 ≡ a.n - r = omega arith in
+    (omega arith, c.move_eight_i64.ensures ∙ ap (paste a.s.now (a.to + r) (drop (a.from + r) a.s.now)) k)
+
+pub returns : goal.returns
+returns c =
+    let a = c.args in
+    let r = a.n - 1 in
+    let k : 1 ≡ a.n - r = omega (arith, c.requires.0) in (
+      omega (arith, c.requires.0),
+      one (pos 0) a.s.now (a.from + r) (a.to + r) (omega (arith, c.requires)) (omega (arith, c.requires)) (same _ (sfits_of c.v-1.given))
+          ∙ ap (paste a.s.now (a.to + r) (drop (a.from + r) a.s.now)) k,
+    )
