@@ -4,6 +4,8 @@ import re
 from typing import NamedTuple
 
 root = pathlib.Path(__file__).resolve().parent.parent
+# The files of a function's proof, in proofs/FUNCTION: what its loops keep, the answers to its goals, or a proof by hand.
+PROOFS = 'Invariants', 'Answers', 'Proof'
 
 
 def listed_crates():
@@ -12,7 +14,7 @@ def listed_crates():
     for line in (root / 'crates.txt').read_text().splitlines():
         name, colon, uses = line.split('#')[0].partition(':')
         if colon:
-            crates[name.strip()] = uses.split()
+            crates[name.split()[0]] = uses.split()  # behind the name a word may stand: staticlib
     return crates
 
 
@@ -33,13 +35,14 @@ class Function(NamedTuple):
 
 
 FUNCTION = re.compile(r'(?:\b(pub(?:\s*\([^)]*\))?)\s+)?(?:\b(extern\s+"C")\s+)?\bfn\s+(\w+)')
-QUIET = re.compile(r'//[^\n]*|b"(?:\\.|[^"\\])*"|b\'(?:\\.[^\']*|[^\'\\])\'')
+QUIET = re.compile(r'//[^\n]*|b?"(?:\\.|[^"\\])*"|\bb\'(?:\\.[^\']*|[^\'\\])\'|(?<!\w)\'(?:\\.[^\']*|[^\'\\])\'', re.S)
 METHODS = re.compile(r'\bimpl\b(?:\s*<[^>]*>)?\s+(\w+)(?:<[^>]*>)?\s*{')
-CLAUSE = re.compile(r'\b(?:requires|ensures)\s*$')
+# A clause of a contract before its brace: `ensures`, or with the clause's name where there are several.
+CLAUSE = re.compile(r'\b(?:requires|ensures)(?:\s*\*)?(?:\s+\w+)?\s*$')
 
 
 def code_of(text):
-    """The text with comments and byte strings blanked, so that every brace in it counts and every position stays."""
+    """The text with comments and strings blanked, so that every brace in it counts and every position stays."""
     return QUIET.sub(lambda m: re.sub(r'[^\n]', ' ', m.group()), text)
 
 
