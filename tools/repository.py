@@ -42,8 +42,8 @@ CLAUSE = re.compile(r'\b(?:requires|ensures)(?:\s*\*)?(?:\s+\w+)?\s*$')
 
 
 def code_of(text):
-    """The text with comments and strings blanked, so that every brace in it counts and every position stays."""
-    return QUIET.sub(lambda m: re.sub(r'[^\n]', ' ', m.group()), text)
+    """The text with comments and strings blanked, but for the "C" of what is exported, so that every brace in it counts and every position stays."""
+    return QUIET.sub(lambda m: m.group() if m.group() == '"C"' else re.sub(r'[^\n]', ' ', m.group()), text)
 
 
 def behind(code, opening):
