@@ -63,8 +63,8 @@ slice_bounds-put_around-start c =
     let w = row_within c.requires in
     omega arith
 
-pub slice_bounds-put_around-end : goal.slice_bounds-put_around-end
-slice_bounds-put_around-end c =
+pub slice_bounds-put_around-end-3 : goal.slice_bounds-put_around-end-3
+slice_bounds-put_around-end-3 c =
     let w = row_within c.requires in
     omega arith
 
@@ -100,8 +100,8 @@ returns c =
     let put-around = c.put_around-at in
     let e = frame-length c.requires c.args.size table-len.result table-len.ensures.0 in
     let size = c.args.size in
-    let b = before c.args.block.now c.args.t2 c.args.next c.args.position size in
-    let z = behind c.args.block.now c.args.t2 c.args.next c.args.position in
+    let b = before c.args.block.now c.args.table c.args.next c.args.position size in
+    let z = behind c.args.block.now c.args.table c.args.next c.args.position in
     let r = frame-room c.requires size (length c.args.out.now) (omega (arith, if1.false, if2.false)) in record {
       value = frame-eq _ _ size b z put-around.ensures.0 e ∙ ap (frame_of size) (sym r);
       out_after = put-around.ensures.1

@@ -30,6 +30,13 @@ overflow_add-e-in-First c =
     let i = scanned-in a.corrections.now a.first.now a.spec e in
     omega (arith, i, c.well_formed.0, c.well_formed.1)
 
+pub slice_bounds-result-end-in-First : goal.slice_bounds-result-end-in-First
+slice_bounds-result-end-in-First c =
+    let a = c.args in
+    let e = via layered_of c.locate.ensures c.in-First.is in
+    let i = scanned-in a.corrections.now a.first.now a.spec e in
+    omega (arith, i)
+
 pub returns-in-Corrections : goal.returns-in-Corrections
 returns-in-Corrections c =
     let a = c.args in

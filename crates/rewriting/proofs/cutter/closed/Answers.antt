@@ -15,23 +15,20 @@ pub returns-then-c-eq1 : goal.returns-then-c-eq1
 returns-then-c-eq1 c =
     let a = c.args in
     let p = c.requires in
-    let h = c.held-1.given in
     let t = c.if-c-eq1.true in
     let e = c.single.ensures in
-    let k = single-few a.room a.on (answer_of a.c.used) a.c.literals (h.0.1.0 - h.0.0) e in
-    record { result_value = closed-single a.s.now a.room a.on a.c _ _ h.1 p.0 t e; literals_bound = omega arith }
+    let k = single-few a.room a.on (answer_of a.c.used) a.c.literals (c.in-Value.till - c.in-Value.from) e in
+    record { result_value = closed-single a.s.now a.room a.on a.c _ _ c.in-Value.is p.0 t e; literals_bound = omega arith }
 
 pub returns-in-Absent : goal.returns-in-Absent
 returns-in-Absent c =
     let a = c.args in
-    let h = c.enum_told-1.given in
-    record { result_value = closed-absent a.s.now a.room a.on a.c h.1 c.absent_run.ensures c.spent.ensures; literals_bound = omega arith }
+    record { result_value = closed-absent a.s.now a.room a.on a.c c.in-Absent.is c.absent_run.ensures c.spent.ensures; literals_bound = omega arith }
 
 pub returns-else-c-eq1 : goal.returns-else-c-eq1
 returns-else-c-eq1 c =
     let a = c.args in
     let p = c.requires in
-    let h = c.held-1.given in
     let e = c.several.ensures in
-    let k = several-few a.room (answer_of a.c.used) a.c.literals a.c.times (h.0.1.0 - h.0.0) e in
-    record { result_value = closed-several a.s.now a.room a.on a.c _ _ h.1 p.0 c.if-c-eq1.false e; literals_bound = omega arith }
+    let k = several-few a.room (answer_of a.c.used) a.c.literals a.c.times (c.in-Value.till - c.in-Value.from) e in
+    record { result_value = closed-several a.s.now a.room a.on a.c _ _ c.in-Value.is p.0 c.if-c-eq1.false e; literals_bound = omega arith }
