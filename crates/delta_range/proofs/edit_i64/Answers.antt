@@ -17,7 +17,7 @@ replace_i64-requires c =
     let load-i64 = c.load_i64 in
     let a = c.args in
     optional-fits delta delta_trace (λ x. refl) (pos 0) a.new.now a.new_present.now a.values.now a.present.now c.requires.ready c.requires.new_present_value
-    load-i64.ensures c.end_in.ensures load-i64.auto.present.1.1.0 load-i64.auto.1.1.1.1.0
+    load-i64.ensures c.end_in.ensures load-i64.auto.values load-i64.auto.present
 
 pub finish_i64-requires : goal.finish_i64-requires
 finish_i64-requires c =

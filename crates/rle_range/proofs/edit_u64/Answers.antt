@@ -17,7 +17,7 @@ replace_u64-requires c =
     let load-u64 = c.load_u64 in
     let a = c.args in
     optional-fits integer (trace u64_e) (λ x. refl) 0 a.new.now a.new_present.now a.values.now a.present.now c.requires.ready c.requires.new_present_value
-    load-u64.ensures c.end_in.ensures load-u64.auto.present.1.1.0 load-u64.auto.1.1.1.1.0
+    load-u64.ensures c.end_in.ensures load-u64.auto.values load-u64.auto.present
 
 pub finish_u64-requires : goal.finish_u64-requires
 finish_u64-requires c =

@@ -59,8 +59,8 @@ refill_from-requires c =
     let byte : (i : ℕ) → get_or col i 0 < 256 = take-bytes (a.found.till - a.found.at) (drop a.found.at b) (drop-bytes a.found.at b (λ i. omega (arith, c.shared_slice_known-1.given i))) in
     let h : a.size ≡ length W = c.requires.size_value in
     let f = c.put_frame-frame.result.at in
-    let mid = c.put_frame-frame.new.1.1.1.0 in
-    let q = put-part f mid W W' c.put_new.ensures w h c.put_frame-frame.auto.1.1.1.0 m.roomy in record {
+    let mid = c.put_frame-frame.new.out in
+    let q = put-part f mid W W' c.put_new.ensures w h c.put_frame-frame.auto.out m.roomy in record {
       size_in_bounds = omega (arith, m.roomy, h, c.put_new.auto, c.put_frame-frame.auto);
       refillable = subst (λ (x : List ℕ). Refillable x c.longer.result (length a.starts.now) (length a.lens.now) (length a.present.now)) (sym q)
           (names-refillable a.bytes.now a.new_starts.now a.new_lens.now a.new_present.now a.starts.now a.lens.now a.present.now R c.requires.new_present_value
@@ -86,8 +86,8 @@ returns c =
     let byte : (i : ℕ) → get_or col i 0 < 256 = take-bytes (a.found.till - a.found.at) (drop a.found.at b) (drop-bytes a.found.at b (λ i. omega (arith, c.shared_slice_known-1.given i))) in
     let h : a.size ≡ length W = c.requires.size_value in
     let f = c.put_frame-frame.result.at in
-    let mid = c.put_frame-frame.new.1.1.1.0 in
-    let q = put-part f mid W W' c.put_new.ensures w h c.put_frame-frame.auto.1.1.1.0 m.roomy in
+    let mid = c.put_frame-frame.new.out in
+    let q = put-part f mid W W' c.put_new.ensures w h c.put_frame-frame.auto.out m.roomy in
     let F = finish-done text R.located.row xs o refl c.requires.size_value c.put_frame-frame.ensures.value c.put_frame-frame.ensures.out_after m (omega (arith, c.well_formed)) (omega (arith, c.well_formed))
     (sym (names-many a.bytes.now a.new_starts.now a.new_lens.now a.new_present.now a.starts.now a.lens.now a.present.now R c.requires.new_present_value))
     (c.put_new.ensures ∙ ap (λ (x : List ℕ). put_behind f x mid) w) c.block_answer.ensures in

@@ -18,15 +18,15 @@ overflow_add-result c = omega (arith, c.len_i64.ensures, i64-short (pos 0), c.le
 
 pub overflow_cast-k : goal.overflow_cast-k
 overflow_cast-k c =
-    let p = c.requires.«at».within in
+    let p = c.requires in
     let e = ap end_of c.in-Repeat.is in
-    omega (arith, p.0, p.1.1.1)
+    omega (arith, p.s_len_bound, p.stretch_nonzero.1)
 
 pub overflow_cast-k-in-Literal : goal.overflow_cast-k-in-Literal
 overflow_cast-k-in-Literal c =
-    let p = c.requires.«at».within in
+    let p = c.requires in
     let e = ap end_of c.in-Literal.is in
-    omega (arith, p.0, p.1.1.1)
+    omega (arith, p.s_len_bound, p.stretch_nonzero.1)
 
 pub literal_len-requires : goal.literal_len-requires
 literal_len-requires c =
@@ -43,17 +43,17 @@ returns-in-Absent c =
 pub returns-in-Repeat : goal.returns-in-Repeat
 returns-in-Repeat c =
     let a = c.args in
-    let p = c.requires.«at» in
+    let p = c.requires in
     let new = name_list a.bytes.now a.starts.now a.lens.now a.present.now in
     let r = c.repeat_count in
-    let f = walk_first a.column.now a.bytes.now new a.s p.within.1.0.0 in
-    let q = repeat-in text_e _ c.in-Repeat.is f p.1.1.0.1 r.ensures r.type-inv in
-    let h = held-length a.column.now a.bytes.now a.s.held p.0.within in
+    let f = walk_first a.column.now a.bytes.now new a.s p.times_nonzero.0 in
+    let q = repeat-in text_e _ c.in-Repeat.is f p.times_nonzero.1 r.ensures r.type_inv in
+    let h = held-length a.column.now a.bytes.now a.s.held p.«at».within in
     c.counted.ensures ∙ ap fit (parts-length q c.len_i64-in-Repeat.ensures (sym h))
 
 pub returns-in-Literal : goal.returns-in-Literal
 returns-in-Literal c =
-    let p = c.requires.«at» in
+    let p = c.requires in
     let r = c.literal_count in
-    let q = literal-in text_e _ c.in-Literal.is p.within.1.0.1 p.1.1.1.0 r.ensures r.type-inv in
+    let q = literal-in text_e _ c.in-Literal.is p.times_nonzero.1 p.stretch_nonzero.0 r.ensures r.type_inv in
     c.literal_len.ensures ∙ ap fit (parts-length q c.len_i64-in-Literal.ensures refl)

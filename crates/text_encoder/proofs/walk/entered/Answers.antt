@@ -38,4 +38,4 @@ returns-in-Absent c =
 pub returns-in-Refused : goal.returns-in-Refused
 returns-in-Refused c =
     let p = c.requires in
-    let both : _ × _ = absurd (head-there _ _ p.sound p.left_value.0 p.left_value.1 _ _ (via head_of c.head_at.ensures c.in-Refused.is)) in record { onward = both.0; at_lt_at = both.1 }
+    absurd (head-there _ _ p.sound p.left_value.0 p.left_value.1 _ _ (via head_of c.head_at.ensures c.in-Refused.is))

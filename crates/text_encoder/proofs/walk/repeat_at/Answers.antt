@@ -24,4 +24,4 @@ returns-in-Number c =
 pub returns-in-Refused : goal.returns-in-Refused
 returns-in-Refused c =
     let p = c.requires in
-    let both : _ × _ = absurd (repeat-there _ _ p.sound p.left_value.0 p.left_value.1 _ _ p.left_value.2 _ _ (via u64_of c.leb128_u64.ensures c.in-Refused.is)) in record { onward = both.0; at_lt_at = both.1 }
+    absurd (repeat-there _ _ p.sound p.left_value.0 p.left_value.1 _ _ p.left_value.2 _ _ (via u64_of c.leb128_u64.ensures c.in-Refused.is))

@@ -9,7 +9,7 @@ use Rattle.encoding.proofs.Written.{cut-bytes, cut-length, cut-shorter, cut-over
 use Rattle.text_encoder.proofs.writing.put_all.Goals as goal
 
 pub loop-walk-init : goal.loop-walk-init
-loop-walk-init c = let p = c.requires.«at» in (p.rest, p.within.0, refl, omega (arith, p.within), refl)
+loop-walk-init c = let p = c.requires in (p.«at», p.s_len_bound, refl, omega (arith, p.s_in_bounds), refl)
 
 pub stretch_at-found-requires : goal.stretch_at-found-requires
 stretch_at-found-requires c =
@@ -34,7 +34,7 @@ loop-walk-preserved c =
     let u = c.put_stretch-at.ensures in (
       e.at_2,
       omega (arith, cut-shorter text_e e.cut_of, h.1),
-      c.put_stretch-at.auto.stretch.1.1.1.1.1.1.0 ∙ h.2,
+      c.put_stretch-at.auto.out ∙ h.2,
       omega (arith, u.after, h.3, cut-length text_e e.cut_of),
       h.4 ∙ put-part _ _ (cut-bytes text_e e.cut_of) u,
     )

@@ -12,7 +12,7 @@ use Rattle.encoding.proofs.Written.{values-bytes, values_length, values-over}
 use Rattle.text_encoder.proofs.writing.put_literal.Goals as goal
 
 pub loop-left-init : goal.loop-left-init
-loop-left-init c = let p = c.requires.«at» in (p.rest, p.within.0, refl, refl, refl)
+loop-left-init c = let p = c.requires in (p.«at», p.k_in_bounds.0, refl, refl, refl)
 
 pub put_held-at-requires : goal.put_held-at-requires
 put_held-at-requires c =
@@ -48,7 +48,7 @@ loop-left-preserved c =
     let z = values_length text_e l t.s_value in (
       t.at_2,
       omega (arith, ap length t.s_value),
-      c.put_held-at.auto.out.1.1.0 ∙ h.2,
+      c.put_held-at.auto.out ∙ h.2,
       omega (arith, u.after),
       h.4 ∙ put-part _ _ (values-bytes text_e l t.s_value) u,
     )
