@@ -88,12 +88,12 @@ edited-true : (e : Edit) (s : List ℕ) (t : CountedTable) → TrueOf s t → Le
 edited-true (integers position start end new flags) s t true_of p c z =
     let v = c.slots in
     edit-true integers-count s t true_of position start end (given_optional (length v.0) (length v.1) (length new) flags) (slot_list new flags)
-    (length v.0) c.out p c.lent (λ g h. words-fit new flags c.type-inv) (optional-some (length v.0) (length v.1) (length new) flags)
+    (length v.0) c.out p c.lent (λ g h. words-fit new flags c.typed) (optional-some (length v.0) (length v.1) (length new) flags)
     c.promised.answer c.promised.output z
 edited-true (deltas position start end new flags) s t true_of p c z =
     let v = c.slots in
     edit-true deltas-count s t true_of position start end (given_optional (length v.0) (length v.1) (length new) flags) (slot_list new flags)
-    (length v.0) c.out p c.lent (λ g h. given-fit i64_e (pos 0) new flags c.type-inv) (optional-some (length v.0) (length v.1) (length new) flags)
+    (length v.0) c.out p c.lent (λ g h. given-fit i64_e (pos 0) new flags c.typed) (optional-some (length v.0) (length v.1) (length new) flags)
     c.promised.answer c.promised.output z
 edited-true (booleans position start end new) s t true_of p c z =
     edit-true booleans-count s t true_of position start end (given_boolean new) new (length c.slots) c.out p c.lent (clean-given new) (boolean-some new)
@@ -102,7 +102,7 @@ edited-true (names position start end bytes starts lens flags) s t true_of p c z
     let v = c.slots in
     edit-true names-count s t true_of position start end (given_text (length v.0) (length v.1) (length v.2) bytes starts lens flags)
     (name_list bytes starts lens flags) (length v.0) c.out p c.lent
-    (λ g h. texts-fit bytes c.type-inv.short 0 starts lens flags
+    (λ g h. texts-fit bytes c.typed.short 0 starts lens flags
     (names-good (length v.0) (length v.1) (length v.2) bytes starts lens flags h).names.texts)
     (text-some (length v.0) (length v.1) (length v.2) bytes starts lens flags) c.promised.answer c.promised.output z
 

@@ -1,4 +1,6 @@
 // A table whose rows carry how many readings their columns have: opening, counting, and the edits that are lent such a table and give one.
+#![tactic(auto)]
+
 ghost use Rattle.std.specs.Prelude.{◌≡◌, ◌-◌, ◌≤◌, ◌<◌, length, take, drop};
 ghost use Rattle.encoding.specs.Cases.{answer_of};
 ghost use Rattle.raw_column.specs.Rows.{opened};

@@ -2,11 +2,7 @@
 use Prim.Native.Nat.{◌^◌}
 use borrow.Author.Tests.{lt-ltb}
 use Rattle.leb128.proofs.Twos.{mag-half}
-use Rattle.counted_table.proofs.typed.any_signed.Statement.{statement}
-use Rattle.counted_table.proofs.typed.any_signed.Tie as tie
+use Rattle.counted_table.proofs.typed.any_signed.Goals as goal
 
-returns : tie.Need-returns
+pub returns : goal.returns
 returns c = lt-ltb _ (2 ^ 63) (mag-half _ c.ranges.word)
-
-pub any-signed-spec : {M : Type 1} → statement M
-any-signed-spec = tie.close (tie.spec returns)
