@@ -17,10 +17,12 @@ returns-then-same_held c =
     let v = c.is_value-on.ensures in
     let yes = either-yes a.c.any (is_value a.held) in
     let no = either-no a.c.any (is_value a.held) in
-
     let e = c.same_held.ensures in
-    record { result_value = fed-same a.s.now a.room a.c a.held a.n c.if-n-eq0.false e
-            (elim c.if-c.branch [ then-c w ↦ w.result-is ∙ yes w.if-c.true | else-c w ↦ no w.if-c.false (w.result-is ∙ v) ]) c.if-same_held.true; within = (p.0, omega arith) }
+    record {
+      result_value = fed-same a.s.now a.room a.c a.held a.n c.if-n-eq0.false e
+          (elim c.if-c.branch [ then-c w ↦ w.result-is ∙ yes w.if-c.true | else-c w ↦ no w.if-c.false (w.result-is ∙ v) ]) c.if-same_held.true;
+      within = (p.0, omega arith);
+    }
 
 pub returns-then-c-2 : goal.returns-then-c-2
 returns-then-c-2 c =
