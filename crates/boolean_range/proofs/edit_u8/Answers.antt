@@ -15,7 +15,7 @@ finish_u8-requires c =
     let load-u8 = c.load_u8 in
     let a = c.args in
     let r = c.requires.ready in
-    let g = boolean-good a.new.now a.values.now r c.requires.value load-u8.ensures load-u8.auto.values end-in.ensures splice-u8.ensures.1 in
+    let g = boolean-good a.new.now a.values.now r c.requires.value load-u8.ensures load-u8.auto.values end-in.ensures splice-u8.ensures.s_after in
     record { has_row = r.located.row; len_in_bounds = omega (arith, r.new_fits, load-u8.auto, splice-u8.auto); good = g }
 
 pub returns : goal.returns
@@ -24,5 +24,5 @@ returns c =
     let end-in = c.end_in in
     let load-u8 = c.load_u8 in
     let a = c.args in
-    boolean-done a.new.now a.values.now c.requires.ready c.requires.value load-u8.ensures load-u8.auto.values end-in.ensures splice-u8.ensures.1
+    boolean-done a.new.now a.values.now c.requires.ready c.requires.value load-u8.ensures load-u8.auto.values end-in.ensures splice-u8.ensures.s_after
     c.finish_u8.ensures
