@@ -6,9 +6,9 @@ use Rattle.column_reason.proofs.column_reason.Goals.{then-typ-eq1-via-then-typ-e
 
 pub returns-then-typ-eq1 : goal.returns-then-typ-eq1
 returns-then-typ-eq1 c = c.integer_reason.ensures ∙ (elim c.then-typ-eq1.branch [
-        then-typ-eq1-via-then-typ-eq1 w ↦ of-actors _ _ w.if-typ-eq1.true
-        | then-typ-eq1-via-else-typ-eq1+then-typ-eq2 w ↦ of_integers _ _ w.if-typ-eq2.true
-    ])
+  | then-typ-eq1-via-then-typ-eq1 w ↦ of-actors _ _ w.if-typ-eq1.true
+  | then-typ-eq1-via-else-typ-eq1+then-typ-eq2 w ↦ of_integers _ _ w.if-typ-eq2.true
+])
 
 pub returns-then-typ-eq3 : goal.returns-then-typ-eq3
 returns-then-typ-eq3 c = c.delta_reason.ensures ∙ of_deltas _ _ c.if-typ-eq3.true

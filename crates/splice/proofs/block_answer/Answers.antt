@@ -25,14 +25,14 @@ pub slice_bounds-read_table-end : goal.slice_bounds-read_table-end
 slice_bounds-read_table-end c =
     let a = c.args in
     let f : Front c.if-len-out.n a.len a.out.now =
-        (elim c.if-len-out.branch [ then-len-out w ↦ below _ _ _ w.if-len-out.true w.n-is | else-len-out w ↦ above _ _ _ w.if-len-out.false w.n-is ]) in
+    (elim c.if-len-out.branch [ then-len-out w ↦ below _ _ _ w.if-len-out.true w.n-is | else-len-out w ↦ above _ _ _ w.if-len-out.false w.n-is ]) in
     sym (length-take-le _ _ f.within)
 
 pub returns-then-o-ne0 : goal.returns-then-o-ne0
 returns-then-o-ne0 c =
     let a = c.args in
     let f : Front c.if-len-out.n a.len a.out.now =
-        (elim c.if-len-out.branch [ then-len-out w ↦ below _ _ _ w.if-len-out.true w.n-is | else-len-out w ↦ above _ _ _ w.if-len-out.false w.n-is ]) in
+    (elim c.if-len-out.branch [ then-len-out w ↦ below _ _ _ w.if-len-out.true w.n-is | else-len-out w ↦ above _ _ _ w.if-len-out.false w.n-is ]) in
     c.refused.ensures ∙ block_refused _ _ c.read_table-o.ensures c.if-o-ne0.true ∙ ap (block_answer _) f.same
 
 pub returns : goal.returns
@@ -40,7 +40,7 @@ returns c =
     let a = c.args in
     let out = a.out.now in
     let f : Front c.if-len-out.n a.len a.out.now =
-        (elim c.if-len-out.branch [ then-len-out w ↦ below _ _ _ w.if-len-out.true w.n-is | else-len-out w ↦ above _ _ _ w.if-len-out.false w.n-is ]) in
+    (elim c.if-len-out.branch [ then-len-out w ↦ below _ _ _ w.if-len-out.true w.n-is | else-len-out w ↦ above _ _ _ w.if-len-out.false w.n-is ]) in
     block_read _ _ c.read_table-o.ensures c.if-o-ne0.false (sym (length-take-le _ out f.within))
     ∙ ap (block_answer _) f.same
     ∙ ap (λ (k : ℕ). block_answer k (take a.len out)) c.readings_in.ensures
