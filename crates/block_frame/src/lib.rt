@@ -1,5 +1,7 @@
 // The frame of a new block (the writing half of the crate's storage/columns/raw_column.rs): the new table, the earlier columns, room for
 // the new column, the later columns. Each other column is copied once, and nothing is changed where the block does not fit.
+#![tactic(auto)]
+
 ghost use Rattle.std.specs.Prelude.{◌≡◌, ◌++◌, ◌+◌, ◌≤◌, length, take};
 ghost use Rattle.leb128.specs.Write.{u64_bytes};
 ghost use Rattle.encoding.specs.Ahead.{PutAt};

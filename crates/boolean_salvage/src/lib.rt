@@ -1,4 +1,6 @@
 // Salvage of a Boolean column: what survives of it, kept in lent slots and written as a fresh column, in the plain form.
+#![tactic(auto)]
+
 ghost use Rattle.std.specs.Prelude.{◌≡◌, true, ◌≤◌, length, take};
 ghost use Rattle.encoding.specs.Cases.{answer_of};
 ghost use Rattle.encoding.specs.Given.{list_judged, Encoded};

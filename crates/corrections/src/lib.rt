@@ -1,4 +1,6 @@
 // Lookup by specification in two blocks, our later corrections over the first scan: which block shows the column, and its part there. Nothing is copied.
+#![tactic(auto)]
+
 ghost use Rattle.std.specs.Prelude.{◌≡◌};
 ghost use Rattle.corrections.specs.Cases.{layered_of};
 ghost use Rattle.corrections.specs.Over.{over, bytes_over};

@@ -1,4 +1,6 @@
 // Comparing the one encoding of a number with the bytes at a position, byte by byte, without writing it.
+#![tactic(auto)]
+
 ghost use Rattle.std.specs.Prelude.{◌≡◌, [], ◌∷◌, ◌≤◌, drop, get_or};
 ghost use Rattle.leb128.specs.Write.{encoded, u64_bytes, i64_bytes};
 ghost use Rattle.count_place.specs.Cases.{place_of};

@@ -1,4 +1,6 @@
 // Salvage of a delta column: what survives of it, kept in lent slots and written as a fresh column.
+#![tactic(auto)]
+
 ghost use Rattle.std.specs.Prelude.{◌≡◌, true, map, ◌≤◌, length, take, pos};
 ghost use Rattle.encoding.specs.Cases.{answer_of};
 ghost use Rattle.encoding.specs.Column.{value};

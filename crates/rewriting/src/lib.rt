@@ -1,4 +1,6 @@
 // What a column reads as, written again by our writer: how many bytes that takes, found in one walk over the column, run by run and without slots.
+#![tactic(auto)]
+
 ghost use Rattle.std.specs.Prelude.{◌≡◌, ◌+◌, ◌≤◌, ◌<◌, length, take, replicate};
 ghost use Rattle.leb128.specs.Answer.{done, within};
 ghost use Rattle.leb128.specs.Short.{short};

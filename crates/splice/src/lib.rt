@@ -1,5 +1,7 @@
 // What the edits share: the checks that come before anything is changed, in 01's order, and the answer. All but the count of a column's
 // readings is the same for every kind of column.
+#![tactic(auto)]
+
 ghost use Rattle.std.specs.Prelude.{◌≡◌, ◌+◌, ◌≤◌, false, leb, length, take};
 ghost use Rattle.encoding.specs.Cases.{answer_of};
 ghost use Rattle.encoding.specs.Limit.{limit};

@@ -57,7 +57,7 @@ loop-k-2-preserved c =
     let inv = c.loop-k-2.invariant in
     let h = c.requires.0 in
     let e = c.ended_len-n.ensures in (
-      (elim c.if-b-flag.branch [ then-b-flag w ↦ rw w.if-b-flag.1 (run-turn _ _ _ _ _ inv.0 h _ (e.0 (ap not (ne_eqb _ _ w.if-b-flag.true))) (omega arith) w.if-b-flag.true) | else-b-flag w ↦ rw w.if-b-flag.1 (run_on _ _ _ _ _ inv.0 _ (e.1 (ap not (eq-eqb _ _ w.if-b-flag.false))) (omega arith) w.if-b-flag.false) ]),
+      (elim c.if-b-flag.branch [ then-b-flag w ↦ rw w.i-is (run-turn _ _ _ _ _ inv.0 h _ (e.0 (ap not (ne_eqb _ _ w.if-b-flag.true))) (omega arith) w.if-b-flag.true) | else-b-flag w ↦ rw w.i-is (run_on _ _ _ _ _ inv.0 _ (e.1 (ap not (eq-eqb _ _ w.if-b-flag.false))) (omega arith) w.if-b-flag.false) ]),
       inv.1,
     )
 

@@ -1,6 +1,5 @@
 -- `boolean_encoder::maybe_encode` meets its contract: the plain form where a value is true, and else no bytes. Assumes nothing.
 use mathlib.Core.Path.{sym, ◌∙◌}
-use borrow.Author.Tests.{not-false}
 use Rattle.boolean_encoder.proofs.Back.{all-false, some-true}
 use Rattle.boolean_encoder.proofs.Writing.{encoded-as, encoded-nothing}
 use Rattle.boolean_encoder.proofs.maybe_encode.Goals as goal
@@ -14,4 +13,4 @@ pub returns : goal.returns
 returns c =
     let any-present = c.any_present in
     let if1 = c.if-not-any_present in
-    encoded-as (sym (some-true _ (sym any-present.ensures ∙ not-false _ if1.false))) c.encode.ensures
+    encoded-as (sym (some-true _ (sym any-present.ensures ∙ if1.false))) c.encode.ensures

@@ -20,3 +20,10 @@ returns c =
     let p = c.locate_spec-p.result in
     let e : p.start + p.len - p.start ≡ p.len = omega arith in
     ap (λ (k : ℕ). take k (drop p.start s)) e ∙ ap (bytes_of s) c.locate_spec-p.ensures
+
+pub slice_bounds-result-end : goal.slice_bounds-result-end
+slice_bounds-result-end c =
+    let a = c.args in
+    let locate-spec = c.locate_spec-p in
+    let i = spec-in a.block.now a.spec locate-spec.result locate-spec.ensures in
+    omega (arith, i)

@@ -20,3 +20,10 @@ returns c =
     let p = c.locate-p.result in
     let e : p.start + p.len - p.start ≡ p.len = omega arith in
     ap (λ (k : ℕ). take k (drop p.start s)) e ∙ ap (bytes_of s) c.locate-p.ensures
+
+pub slice_bounds-result-end : goal.slice_bounds-result-end
+slice_bounds-result-end c =
+    let a = c.args in
+    let locate = c.locate-p in
+    let i = part_in_lem a.block.now a.position locate.result locate.ensures in
+    omega (arith, i)

@@ -6,4 +6,4 @@ pub returns : goal.returns
 returns c =
     let p = c.requires in
     let a = c.args in
-    rw (p.3, get_or-take a.t1.rows a.t1.lens a.i 0 p.0, get_or-take a.t1.rows a.t1.specs a.i 0 p.0)
+    rw (p.3, get_or-take a.table.rows a.table.lens a.i 0 p.0, get_or-take a.table.rows a.table.specs a.i 0 p.0)

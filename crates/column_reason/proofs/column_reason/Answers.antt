@@ -1,12 +1,14 @@
 -- `column_reason::column_reason` meets its contract: the reason of the kind that the type has, or 17. Assumes nothing.
 use mathlib.Core.Path.{◌∙◌}
-use borrow.Author.Tests.{eqb-true, eqb-false}
 use Rattle.column_reason.proofs.Types.{of-actors, of_integers, of_deltas, of_booleans, of_names, of_others}
 use Rattle.column_reason.proofs.column_reason.Goals as goal
-use Rattle.column_reason.proofs.column_reason.Goals.{else-n-typ-eq1, then-n-typ-eq1}
+use Rattle.column_reason.proofs.column_reason.Goals.{then-typ-eq1-via-then-typ-eq1, then-typ-eq1-via-else-typ-eq1+then-typ-eq2}
 
 pub returns-then-typ-eq1 : goal.returns-then-typ-eq1
-returns-then-typ-eq1 c = c.integer_reason.ensures ∙ (elim c.then-typ-eq1.branch [ then-n-typ-eq1 w ↦ of-actors _ _ w.taken | else-n-typ-eq1 w ↦ of_integers _ _ (eqb-true _ _ w.1.taken) ])
+returns-then-typ-eq1 c = c.integer_reason.ensures ∙ (elim c.then-typ-eq1.branch [
+        then-typ-eq1-via-then-typ-eq1 w ↦ of-actors _ _ w.if-typ-eq1.true
+        | then-typ-eq1-via-else-typ-eq1+then-typ-eq2 w ↦ of_integers _ _ w.if-typ-eq2.true
+    ])
 
 pub returns-then-typ-eq3 : goal.returns-then-typ-eq3
 returns-then-typ-eq3 c = c.delta_reason.ensures ∙ of_deltas _ _ c.if-typ-eq3.true
@@ -18,4 +20,4 @@ pub returns-then-typ-eq5 : goal.returns-then-typ-eq5
 returns-then-typ-eq5 c = c.text_reason.ensures ∙ of_names _ _ c.if-typ-eq5.true
 
 pub returns : goal.returns
-returns c = of_others _ _ c.if-typ-eq1.false (eqb-false _ _ c.if-typ-eq2.false) c.if-typ-eq3.false c.if-typ-eq4.false c.if-typ-eq5.false
+returns c = of_others _ _ c.if-typ-eq1.false c.if-typ-eq2.false c.if-typ-eq3.false c.if-typ-eq4.false c.if-typ-eq5.false

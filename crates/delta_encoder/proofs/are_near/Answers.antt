@@ -1,7 +1,6 @@
 -- `delta_encoder::are_near` meets its contract: while no far value was seen, those before k are near. Assumes nothing.
 use Prim.Native.Nat.{ℕ}
 use mathlib.Core.Path.{◌≡◌, sym, ◌∙◌, ap}
-use mathlib.Core.Logic.{⊎_elim}
 use native.Mathlib.Omega.{arith}
 use borrow.Author.Count.{below_more}
 use lib.IntN.{pos}
@@ -9,6 +8,7 @@ use lib.ListN.{get_or}
 use lib.Signed.{mag}
 use Rattle.delta_encoder.proofs.Taking.{read_back}
 use Rattle.delta_encoder.proofs.are_near.Goals as goal
+use Rattle.delta_encoder.proofs.are_near.Goals.{then-magnitude-ge-QUARTER, else-magnitude-ge-QUARTER}
 
 pub loop-k-init : goal.loop-k-init
 loop-k-init c = (omega arith, λ e k l. absurd (omega arith))
@@ -25,10 +25,10 @@ loop-k-preserved c =
     let f = read_back {x = get_or c.args.values.now l.k (pos 0)} c.magnitude-arg-1.given in
     let m = c.magnitude.ensures.0 ∙ ap mag f in (
       omega arith,
-      ⊎_elim
-          (λ w e. let z : ◌≡◌ {A = ℕ} 0 1 = cc in absurd (omega arith))
-          (λ w e. below_more _ _ (l.invariant.1 (sym w.1 ∙ e)) (rw m at w.0.left))
-          c.if-magnitude-ge-QUARTER.branch,
+      elim c.if-magnitude-ge-QUARTER.branch [
+        | then-magnitude-ge-QUARTER w ↦ λ e. let z : ◌≡◌ {A = ℕ} 0 1 = cc in absurd (omega arith)
+        | else-magnitude-ge-QUARTER w ↦ λ e. below_more _ _ (l.invariant.1 (sym w.near-is ∙ e)) (rw m at w.if-magnitude-ge-QUARTER.false)
+      ],
     )
 
 pub returns : goal.returns

@@ -3,7 +3,6 @@ use Prim.Native.Nat.{ℕ, ◌+◌}
 use mathlib.Core.Path.{refl, sym, ◌∙◌, ap}
 use mathlib.Core.Option.{Option}
 use native.Mathlib.Omega.{arith}
-use borrow.Author.Tests.{not-false}
 use lib.IntN.{ℤ, pos}
 use lib.ListN.{get_or, drop}
 use mir.Syntax.{w64}
@@ -13,7 +12,7 @@ use Rattle.delta_encoder.specs.Differences.{differences, wide_at}
 use Rattle.delta_encoder.proofs.Differing.{wide-none, wide-some, wide-stop, wide-end, near-narrow}
 use Rattle.delta_encoder.proofs.Taking.{read_back}
 use Rattle.delta_encoder.proofs.check_width.Goals as goal
-use Rattle.delta_encoder.proofs.check_width.Goals.{else-present-k-ne0, then-present-k-ne0}
+use Rattle.delta_encoder.proofs.check_width.Goals.{then-present-k-ne0+else-not-is_held, else-present-k-ne0}
 
 pub returns-then-are_near : goal.returns-then-are_near
 returns-then-are_near c = sym (near-narrow _ _ (c.are_near.ensures c.if-are_near.true))
@@ -42,15 +41,15 @@ loop-k-preserved c =
     let p = c.args.present.now in
     let k = c.loop-k.k in
     let l = c.loop-k-test.true in
-    let last = c.loop-k.last in
+    let last = to_z w64 c.loop-k.last-bits in
     let next : ℤ → Option ℕ = λ z. wide_at (k + 1) (differences z (drop (k + 1) (slot_list v p))) in (
       omega arith,
       c.loop-k.invariant.1
           ∙ (elim c.if-present-k-ne0.branch [
-            | then-present-k-ne0 w ↦ let f = read_back {x = get_or v k (pos 0)} w.is_held-arg-1.given in
+            | then-present-k-ne0+else-not-is_held w ↦ let f = read_back {x = get_or v k (pos 0)} w.is_held-arg-1.given in
                 let e = rw f at w.is_held.ensures in
-                wide-some v p c.requires (to_z w64 last) k l w.if-present-k-ne0.true (sym e ∙ not-false _ w.if-not-is_held.false) ∙ ap next (sym (ap (to_z w64) w.if-present-k-ne0.5 ∙ f))
-            | else-present-k-ne0 w ↦ wide-none v p c.requires (to_z w64 last) k l w.if-present-k-ne0.false ∙ ap (λ (n : ℕ). next (to_z w64 n)) (sym w.if-present-k-ne0.1)
+                wide-some v p c.requires last k l w.if-present-k-ne0.true (sym e ∙ w.if-not-is_held.false) ∙ ap next (sym (w.last-is ∙ f))
+            | else-present-k-ne0 w ↦ wide-none v p c.requires last k l w.if-present-k-ne0.false ∙ ap next (sym w.last-is)
           ]),
     )
 

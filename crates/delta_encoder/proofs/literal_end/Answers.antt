@@ -21,7 +21,7 @@ loop-j-init c =
     let h = c.requires.literal_to in
     let e : c.args.i + 1 - 1 ≡ c.args.i = omega arith in
     let n = diffs-length (pos 0) c.args.values.now c.args.present.now c.requires.narrow.even in
-    (omega arith, omega (arith, h.later.within), λ z. h.within (rw e at z), h.later)
+    (omega arith, omega (arith, h.within), λ z. c.requires.fact (rw e at z), h)
 
 pub bounds-present-j : goal.bounds-present-j
 bounds-present-j c = let e = c.requires.narrow.even in omega arith

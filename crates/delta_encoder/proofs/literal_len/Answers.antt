@@ -34,7 +34,7 @@ overflow_sub-values c =
 
 pub overflow_add-n : goal.overflow_add-n
 overflow_add-n c =
-    let d = to_z w64 (of_z w64 (get_or c.args.values.now c.loop-j.j (pos 0))) -ℤ to_z w64 c.loop-j.l in
+    let d = to_z w64 (of_z w64 (get_or c.args.values.now c.loop-j.j (pos 0))) -ℤ to_z w64 c.loop-j.l-bits in
     omega (arith, i64-ten (to_z w64 (of_z w64 d)), c.requires.narrow.1)
 
 pub offset_bounds-values-j-in-loop-j : goal.offset_bounds-values-j-in-loop-j

@@ -54,7 +54,7 @@ loop-i-preserved c =
     let e = bytes_cut i64_e (pos 0) _ _ _ _ q ∙ ap (λ (k : ℕ). b ++ bytes_from i64_e (diffs v p) p k) (sym z) in
     let l = bytes-length i64_e (pos 0) _ _ _ _ q ∙ ap (λ (k : ℕ). length b + length (bytes_from i64_e (diffs v p) p k)) (sym z) in (
       omega arith,
-      c.put_stretch-at.auto.out.1.1.1.1.0 ∙ h.1,
+      c.put_stretch-at.auto.out ∙ h.1,
       read_back c.stretch_last-last.type_inv ∙ c.stretch_last-last.ensures ∙ ap (last_before v p) (sym z),
       omega (arith, u.after),
       h.4 ∙ put-part _ _ e u,

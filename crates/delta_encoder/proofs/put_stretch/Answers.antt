@@ -75,7 +75,7 @@ put_signed-requires c =
     let l = repeat-covers v p N.even _ c.requires.stretch_at e in
     let b = taken_back v p N _ l.0 l.1 (read_back c.put_signed-arg-in-Repeat-3-1.given) (passed c.ranges.last ∙ c.requires.last_value) in
     let q = repeat-parts i64_e (pos 0) (diffs v p) c.args.i e r.ensures r.type_inv in
-    let f = second_fits q c.requires.stretch_in_bounds n.ensures n.auto.0 in
+    let f = second_fits q c.requires.stretch_in_bounds n.ensures n.auto.out in
     omega (arith, ap (λ (x : ℤ). length (i64_bytes x)) b)
 
 pub overflow_sub-k-in-Literal : goal.overflow_sub-k-in-Literal
@@ -106,7 +106,7 @@ put_literal-requires c =
     let e = c.in-Literal.is in
     let w = literal-covers _ _ c.requires.narrow.0.even _ h e in
     let p = literal-parts i64_e (pos 0) (diffs a.values.now a.present.now) a.i e r.ensures r.type_inv h.later h.within in
-    record { narrow = c.requires.narrow.0; i_le_k = (w.0, w.1, w.2, passed c.ranges.last ∙ c.requires.last_value); present_in_bounds = second_fits p c.requires.stretch_in_bounds n.ensures n.auto.0 }
+    record { narrow = c.requires.narrow.0; i_le_k = (w.0, w.1, w.2, passed c.ranges.last ∙ c.requires.last_value); present_in_bounds = second_fits p c.requires.stretch_in_bounds n.ensures n.auto.out }
 
 pub returns-in-Absent : goal.returns-in-Absent
 returns-in-Absent c =

@@ -18,3 +18,6 @@ returns c =
     let a = c.args in
     let e : (a.start + a.len) - a.start ≡ a.len = omega arith in
     c.is_utf8.ensures ∙ ap (λ (k : ℕ). is_utf8 (bytes_at a.bytes.now a.start k)) e ∙ sym (text-there _ _ c.if-flag-eq0.false)
+
+pub slice_bounds-is_utf8-end : goal.slice_bounds-is_utf8-end
+slice_bounds-is_utf8-end c = let w = pair-within _ _ _ _ c.requires c.if-flag-eq0.false in omega arith

@@ -33,7 +33,7 @@ loop-i-preserved c =
     let u = c.put_stretch-at.ensures in
     let e = rw (← z) at (bytes_cut u64_e 0 _ _ _ _ p) in
     let l = rw (← z) at (bytes-length u64_e 0 _ _ _ _ p) in
-    (omega arith, c.put_stretch-at.auto.out.1.1.0 ∙ h.1, omega (arith, u.after), h.3 ∙ put-part _ _ e u)
+    (omega arith, c.put_stretch-at.auto.out ∙ h.1, omega (arith, u.after), h.3 ∙ put-part _ _ e u)
 
 pub shape_of-out : goal.shape_of-out
 shape_of-out c = c.loop-i.invariant.1

@@ -44,7 +44,7 @@ put_number-requires-in-Repeat c =
     let n = c.put_count-q-in-Repeat in
     let e = c.in-Repeat.is in
     let p = repeat-parts u64_e 0 c.args.values.now c.args.i e r.ensures r.type_inv in
-    second_fits p c.requires.stretch_in_bounds n.ensures n.auto.0
+    second_fits p c.requires.stretch_in_bounds n.ensures n.auto.out
 
 pub overflow_sub-k-in-Literal : goal.overflow_sub-k-in-Literal
 overflow_sub-k-in-Literal c =
@@ -72,7 +72,7 @@ put_literal-requires c =
     let e = c.in-Literal.is in
     let z = ap end_of e in
     let p = literal-parts u64_e 0 c.args.values.now c.args.i e r.ensures r.type_inv h.0 h.1 in
-    (omega arith, omega arith, second_fits p c.requires.stretch_in_bounds n.ensures n.auto.0)
+    (omega arith, omega arith, second_fits p c.requires.stretch_in_bounds n.ensures n.auto.out)
 
 pub returns-in-Absent : goal.returns-in-Absent
 returns-in-Absent c =
