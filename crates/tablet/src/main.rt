@@ -1,6 +1,6 @@
 // The tool a desk uses: it looks at blocks of columns, draws them, edits them, makes them and saves what is left of them. `help.rt` says how it is used.
 //
-// What was asked for goes to standard output, and what went wrong to standard error: a program has no exit status, and the script
+// What was asked for goes to standard output, and what went wrong to standard error: the program ends with status 0 either way, and the script
 // ./tablet makes one of that.
 #![tactic(auto)]
 
