@@ -1,7 +1,7 @@
 /* The column encodings of Automerge documents, proved: numbers, specifications, columns, salvage, replay, forms, tables, stored counts,
  * reasons and edits.
  *
- * Link libcapi.a, which `rt staticlib capi` writes (x86-64 Linux). The functions call nothing but memcpy and memset, allocate nothing,
+ * Link libcapi.a, which `rt lib` in crates/capi writes (x86-64 Linux). The functions call nothing but memcpy and memset, allocate nothing,
  * keep nothing and share nothing: any two may run at once on different buffers.
  *
  * SLICES are a pointer and a length, in elements and not in bytes. The caller sees to it, for no function can test it, that

@@ -1,33 +1,45 @@
-"""What a proof knows at each need of a function, from the files that a check generates (rt dev CRATE --generated FOLDER)."""
-import pathlib
+"""What a proof knows at each goal of a function, from what a check says of its holes (rt check --start CRATE::FUNCTION --allow-holes)."""
 import re
+import sys
 
-PLACE = re.compile(r'^ *pub record (\S+) : Type 0 where\n((?: +pub (?!record).*\n(?: {10,}.*\n)*)+)', re.M)
-FIELD = re.compile(r'^ +pub (\S+) : (\S+)', re.M)
-NEED = re.compile(r'^ *Need-(\S+) =\s+\(c : (\S+)\)', re.M)
+from repository import Copy, listed_crates, texts_of
+
+GOAL = re.compile(r'goal \? in `(\S+)`\n((?: .*\n)*)')
+STEP = re.compile(r'^    (c[^\s:]*): (.*)$', re.M)
+FIELD = re.compile(r'^    (c\.\S+) : (.*)$', re.M)
 
 
-def known_at_needs(generated, crate, function):
-    """For each need the places before it, the nearest first and the function's entry last, as the names that each binds."""
-    text = (pathlib.Path(generated) / f'Rattle·{crate}·proofs' / 'proofs' / function / 'Lts.antt').read_text()
-    places = {name: dict(FIELD.findall(fields)) for name, fields in PLACE.findall(text) if not name.endswith('·own')}
+def fields_in(text):
+    """The fields of a step, as in `.s {.ref_ptr, .now}, .at`."""
+    for name, inside in re.findall(r'(\.[^\s,{}]+)(?: \{([^}]*)\})?', text):
+        yield name
+        yield from (name + field for field in re.findall(r'\.[^\s,{}]+', inside))
+
+
+def known_at_goals(said):
+    """For each goal what is to be shown, and what is known there: each path, as a proof writes it, with its type where the check says it."""
     known = {}
-    for need, place in NEED.findall(text):
-        known[need] = []
-        while place in places:
-            known[need].append([name for name in places[place] if name != 'before'])
-            place = places[place].get('before')
+    for goal, text in GOAL.findall(said):
+        types, steps = dict(FIELD.findall(text)), {}
+        for step, fields in STEP.findall(text):
+            same = re.fullmatch(r'same as (\S+)', fields)
+            steps[step] = steps.get(same.group(1), []) if same else list(fields_in(fields))
+        shown = re.search(r'^  ⊢ (.*)$', text, re.M)
+        known[goal] = shown.group(1) if shown else '', {step + field: types.get(step + field, '') for step, fields in steps.items() for field in fields}
     return known
 
 
+def goals_of(room, crate, function):
+    """What is known at each goal that a function has where it has no answers, from a check in a copy that is made in the folder `room`."""
+    if crate not in listed_crates():
+        sys.exit(f'crates.txt lists no crate {crate}')
+    copy, answers = Copy(room), f'proofs/{function}/Answers.antt'
+    (copy.folder / 'crates' / crate / answers).unlink(missing_ok=True)
+    texts = {file: text for file, text in texts_of(crate).items() if file != answers}
+    said = copy.check(crate, texts, '--start', '::'.join([crate, *function.split('/')]), '--allow-holes')
+    return known_at_goals(said) or sys.exit(f'{crate}: {function} has no goals, or it was not checked:\n{said}')
+
+
 def path_to(name, places):
-    """The path to what is bound under a name, as a proof writes it; None where nothing is."""
-    for steps, names in enumerate(places):
-        if name in names:
-            return 'c' + ' .before' * steps + ' .' + name
-    return None
-
-
-def entry(places):
-    """The path to the function's entry."""
-    return 'c' + ' .before' * (len(places) - 1)
+    """The path to what is bound under a name, the last one that ends in it; None where nothing is."""
+    return next((path for path in reversed(places) if path.endswith(f'.{name}')), None)

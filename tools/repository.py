@@ -1,9 +1,14 @@
-"""What the tools share: where the repository stands, its crates, and the functions of a source."""
+"""What the tools share: where the repository stands, its crates, the functions of a source, and a copy of the crates to check something in."""
 import pathlib
 import re
+import shutil
+import subprocess
 from typing import NamedTuple
 
 root = pathlib.Path(__file__).resolve().parent.parent
+# The files of a function's proof, in proofs/FUNCTION: what its loops keep, the answers to its goals, or a proof by hand.
+PROOFS = 'Invariants', 'Answers', 'Proof'
+PARTS = 'src', 'specs', 'proofs'
 
 
 def listed_crates():
@@ -12,7 +17,7 @@ def listed_crates():
     for line in (root / 'crates.txt').read_text().splitlines():
         name, colon, uses = line.split('#')[0].partition(':')
         if colon:
-            crates[name.strip()] = uses.split()
+            crates[name.split()[0]] = uses.split()  # behind the name a word may stand: staticlib
     return crates
 
 
@@ -33,14 +38,15 @@ class Function(NamedTuple):
 
 
 FUNCTION = re.compile(r'(?:\b(pub(?:\s*\([^)]*\))?)\s+)?(?:\b(extern\s+"C")\s+)?\bfn\s+(\w+)')
-QUIET = re.compile(r'//[^\n]*|b"(?:\\.|[^"\\])*"|b\'(?:\\.[^\']*|[^\'\\])\'')
+QUIET = re.compile(r'//[^\n]*|b?"(?:\\.|[^"\\])*"|\bb\'(?:\\.[^\']*|[^\'\\])\'|(?<!\w)\'(?:\\.[^\']*|[^\'\\])\'', re.S)
 METHODS = re.compile(r'\bimpl\b(?:\s*<[^>]*>)?\s+(\w+)(?:<[^>]*>)?\s*{')
-CLAUSE = re.compile(r'\b(?:requires|ensures)\s*$')
+# A clause of a contract before its brace: `ensures`, or with the clause's name where there are several.
+CLAUSE = re.compile(r'\b(?:requires|ensures)(?:\s*\*)?(?:\s+\w+)?\s*$')
 
 
 def code_of(text):
-    """The text with comments and byte strings blanked, so that every brace in it counts and every position stays."""
-    return QUIET.sub(lambda m: re.sub(r'[^\n]', ' ', m.group()), text)
+    """The text with comments and strings blanked, but for the "C" of what is exported, so that every brace in it counts and every position stays."""
+    return QUIET.sub(lambda m: m.group() if m.group() == '"C"' else re.sub(r'[^\n]', ' ', m.group()), text)
 
 
 def behind(code, opening):
@@ -77,3 +83,32 @@ def public_functions(crate):
     if (folder / 'main.rt').exists():
         return []
     return [(path, function) for path in sorted(folder.rglob('*.rt')) for function in functions_of(path.read_text()) if function.visibility == 'pub']
+
+
+def texts_of(crate):
+    """The texts of a crate's files, by their paths in it."""
+    folder = root / 'crates' / crate
+    return {str(path.relative_to(folder)): path.read_text() for part in PARTS for path in sorted((folder / part).rglob('*')) if path.suffix in ('.rt', '.antt')}
+
+
+class Copy:
+    """A copy of the crates in which rt check works, so that the checkout stays as it is. It begins with what checks on this machine kept."""
+
+    def __init__(self, room):
+        self.folder = pathlib.Path(room)
+        (self.folder / 'crates').mkdir()
+        shutil.copy(root / 'crates.txt', self.folder)
+        for crate in listed_crates():
+            for part in PARTS:
+                if (root / 'crates' / crate / part).is_dir():
+                    shutil.copytree(root / 'crates' / crate / part, self.folder / 'crates' / crate / part)
+
+    def write(self, crate, texts):
+        for file, text in texts.items():
+            (self.folder / 'crates' / crate / file).write_text(text)
+
+    def check(self, crate, texts, *words):
+        """What rt check says of the crate with these texts."""
+        self.write(crate, texts)
+        how = {'stdin': subprocess.DEVNULL, 'stdout': subprocess.PIPE, 'stderr': subprocess.STDOUT, 'text': True, 'errors': 'replace'}
+        return subprocess.run(['rt', 'check', '--jobs', '1', *words], cwd=self.folder / 'crates' / crate, **how).stdout

@@ -54,7 +54,7 @@ function pair(text,    at) {
 
 END {
     gsub(/ +/, " ", text)
-    n = split(text, item, /#\[no_mangle\] pub extern "C" fn |#\[repr\(C\)\] pub struct |; pub fn |extern "C" { pub fn /)
+    n = split(text, item, /#\[unsafe\(no_mangle\)\] pub extern "C" fn |#\[repr\(C\)\] (#\[derive\([A-Za-z, ]*\)\] )?pub struct |; pub fn |extern "C" { pub fn /)
     for (i = 2; i <= n; i++) {
         if (item[i] ~ /^[A-Z][A-Za-z0-9]* /) struct(item[i])
         if (item[i] ~ /^grundavok_/) prototype(item[i])

@@ -1,4 +1,6 @@
 // Why a column of a block was refused: its table's reason, or the column's own.
+#![tactic(auto)]
+
 ghost use Rattle.std.specs.Prelude.{◌≡◌};
 ghost use Rattle.column_part.specs.Part.{part_at};
 ghost use Rattle.reason.specs.Cases.{told_of};

@@ -1,5 +1,7 @@
 // Whether a Boolean column is in the form that our writer gives, the plain one: its counts beside those that the writer gives for what it reads as,
 // without slots.
+#![tactic(auto)]
+
 ghost use Rattle.std.specs.Prelude.{◌≡◌, ◌+◌, ◌≤◌, length};
 ghost use Rattle.encoding.specs.Limit.{limit};
 ghost use Rattle.boolean_decoder.specs.Turns.{turn, turns_from, bool_trace};

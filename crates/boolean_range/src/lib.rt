@@ -1,5 +1,7 @@
 // The edit of a Boolean column: a range of its readings replaced, and the whole new block written (what the crate's
 // columnar/column_range/delta.rs does for delta columns).
+#![tactic(auto)]
+
 ghost use Rattle.std.specs.Prelude.{◌≡◌, ◌-◌, ◌≤◌, length, take, drop};
 ghost use Rattle.leb128.specs.Answer.{done};
 ghost use Rattle.encoding.specs.Cases.{answer_of};

@@ -1,4 +1,6 @@
 // Whether a column of any served type is in the form that our writer gives for the list that it reads as. No slots, and time by the bytes, whatever the counts say.
+#![tactic(auto)]
+
 ghost use Rattle.std.specs.Prelude.{◌≡◌, map};
 ghost use Rattle.encoding.specs.Column.{value};
 ghost use Rattle.delta_decoder.specs.Sums.{delta_trace};

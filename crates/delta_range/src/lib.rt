@@ -1,5 +1,7 @@
 // The edit of a DeltaInteger column: a range of its readings replaced, and the whole new block written (the splice of the crate's
 // columnar/column_range/delta.rs).
+#![tactic(auto)]
+
 ghost use Rattle.std.specs.Prelude.{◌≡◌, map, ◌+◌, ◌-◌, ◌≤◌, pos, length, take, drop};
 ghost use Rattle.std.proofs.Math.Option.{none};
 ghost use Rattle.std.proofs.Math.Seq.{paste};

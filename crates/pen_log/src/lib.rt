@@ -1,5 +1,7 @@
 // The pen's log of a tracing session: entries that insert, remove and change readings, replayed over a delta column. It has no counterpart in the
 // crate. Whether an entry is good goes by the list's length alone, so one pass judges the whole log before a slot is touched and a second follows it.
+#![tactic(auto)]
+
 ghost use Rattle.std.specs.Prelude.{◌≡◌, ◌+◌, ◌≤◌, ◌<◌, length, take};
 ghost use Rattle.encoding.specs.Cases.{answer_of};
 ghost use Rattle.encoding.specs.Limit.{limit};

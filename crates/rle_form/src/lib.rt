@@ -1,5 +1,7 @@
 // Whether a run-length column is in the form that our writer gives, whatever its values are: it is walked run by run, beside the stretches of the list that it
 // reads as, and what they begin with is compared. Nothing is written and no slot is used.
+#![tactic(auto)]
+
 ghost use Rattle.std.specs.Prelude.{◌≡◌, map, ◌≤◌, ◌<◌, length, drop};
 ghost use Rattle.encoding.specs.Column.{value, trace};
 ghost use Rattle.encoding.specs.Limit.{limit};

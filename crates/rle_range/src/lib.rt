@@ -1,5 +1,7 @@
 // The edit of an Actor or Integer column: a range of its readings replaced, and the whole new block written (what the crate's
 // columnar/column_range/delta.rs does for delta columns).
+#![tactic(auto)]
+
 ghost use Rattle.std.specs.Prelude.{◌≡◌, map, ◌+◌, ◌-◌, ◌≤◌, length, take, drop};
 ghost use Rattle.std.proofs.Math.Option.{none};
 ghost use Rattle.std.proofs.Math.Seq.{paste};

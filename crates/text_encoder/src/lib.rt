@@ -1,5 +1,7 @@
 // Writing a list of names as a String column (the crate's RleEncoder over strings): the stretches of the list found by looking ahead, once for their
 // size and once to write them. One walk serves the plain list, as a column of no bytes with nothing replaced, and the edit of a column (`range`).
+#![tactic(auto)]
+
 ghost use Rattle.std.specs.Prelude.{◌≡◌, ◌-◌, ◌^◌, ◌≤◌, length};
 ghost use Rattle.std.proofs.lemmas.List.Edits.{sets};
 ghost use Rattle.leb128.specs.Answer.{within};

@@ -1,4 +1,6 @@
 // Salvage of a String column: what survives of it, kept in lent slots, by starts and lengths in the given column, and written as a fresh column.
+#![tactic(auto)]
+
 ghost use Rattle.std.specs.Prelude.{◌≡◌, true, map, ◌≤◌, length, take};
 ghost use Rattle.encoding.specs.Cases.{answer_of};
 ghost use Rattle.encoding.specs.Column.{value, trace};

@@ -1,0 +1,34 @@
+-- `delta_range::put_block_i64` meets its contract: refused, or the column put into the frame. Assumes nothing.
+use native.Mathlib.Omega.{arith}
+use lib.IntN.{pos}
+use Rattle.encoding.specs.Given.{slot_list}
+use Rattle.splice.specs.Kinds.{delta}
+use Rattle.splice.proofs.OptionalEdits.{list_length}
+use Rattle.splice.proofs.Writing.{finish-short, finish-room, finish-done}
+use Rattle.delta_range.proofs.put_block_i64.Goals as goal
+
+pub returns-then-frame-ne0 : goal.returns-then-frame-ne0
+returns-then-frame-ne0 c =
+    let put-frame = c.put_frame-frame in
+    let a = c.args in
+    let xs = slot_list a.values.now a.present.now in
+    finish-short delta c.requires.has_row xs a.out.now c.requires.size_value.1 c.requires.size_value.0 put-frame.ensures.value put-frame.ensures.out_after c.if-frame-ne0.true c.refused.ensures
+
+pub fill_i64-requires : goal.fill_i64-requires
+fill_i64-requires c =
+    let put-frame = c.put_frame-frame in
+    let a = c.args in
+    let xs = slot_list a.values.now a.present.now in
+    let m = finish-room delta c.requires.has_row xs a.out.now c.requires.size_value.1 c.requires.size_value.0 put-frame.ensures.value put-frame.ensures.out_after c.if-frame-ne0.false in
+    record { good = c.requires.good; narrow = c.requires.size_value.1; room = omega (arith, m.roomy, put-frame.auto) }
+
+pub returns : goal.returns
+returns c =
+    let fill-i64 = c.fill_i64 in
+    let if1 = c.if-frame-ne0 in
+    let put-frame = c.put_frame-frame in
+    let a = c.args in
+    let xs = slot_list a.values.now a.present.now in
+    let m = finish-room delta c.requires.has_row xs a.out.now c.requires.size_value.1 c.requires.size_value.0 put-frame.ensures.value put-frame.ensures.out_after if1.false in
+    finish-done delta c.requires.has_row xs a.out.now c.requires.size_value.1 c.requires.size_value.0 put-frame.ensures.value put-frame.ensures.out_after m (omega (arith, c.well_formed)) (omega (arith, c.well_formed))
+    (list_length (pos 0) a.values.now a.present.now c.requires.good.even) fill-i64.ensures c.block_answer.ensures
