@@ -15,12 +15,12 @@ fn least(a: usize, b: usize) -> usize {
 }
 
 // A byte in two digits.
-fn say_byte(p: Pen, b: u8) -> Pen {
+fn say_byte(p: Pen<'_>, b: u8) -> Pen<'_> {
     pen::hex(pen::text(p, b" "), b as u64)
 }
 
 // The bytes from a up to e that are there.
-fn say_bytes(p: Pen, s: &[u8], a: usize, e: usize) -> Pen {
+fn say_bytes<'p>(p: Pen<'p>, s: &[u8], a: usize, e: usize) -> Pen<'p> {
     let mut q = p;
     let mut i = a;
     while i < e {
@@ -34,7 +34,7 @@ fn say_bytes(p: Pen, s: &[u8], a: usize, e: usize) -> Pen {
 }
 
 // A line for a place: where its first byte stands, the bytes before the number, the number's own in brackets, and some behind it.
-pub fn say(p: Pen, s: &[u8], place: usize) -> Pen {
+pub fn say<'p>(p: Pen<'p>, s: &[u8], place: usize) -> Pen<'p> {
     let n = reason::number_bytes(s, place) as usize;
     let from = less(place, NEAR);
     let end = plus(place, n);

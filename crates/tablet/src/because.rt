@@ -26,7 +26,7 @@ pub fn is_of_number(r: TableReason) -> bool {
 }
 
 // A signed number.
-fn say_signed(p: Pen, z: i64) -> Pen {
+fn say_signed(p: Pen<'_>, z: i64) -> Pen<'_> {
     let n = leb128::magnitude(z);
     if z < 0 {
         return pen::number(pen::text(p, b"-"), after(n as usize) as u64);
@@ -35,7 +35,7 @@ fn say_signed(p: Pen, z: i64) -> Pen {
 }
 
 // What a count says of its run.
-fn say_count(p: Pen, c: Count) -> Pen {
+fn say_count(p: Pen<'_>, c: Count) -> Pen<'_> {
     match c {
         Count::Unread => pen::text(p, b", and whose count does not read"),
         Count::Plus(n) => {
@@ -56,7 +56,7 @@ fn say_count(p: Pen, c: Count) -> Pen {
 }
 
 // Which run it is.
-fn say_run(p: Pen, r: Reason) -> Pen {
+fn say_run(p: Pen<'_>, r: Reason) -> Pen<'_> {
     let count = r.count;
     let q = pen::form(
         p,
@@ -77,7 +77,7 @@ fn say_run(p: Pen, r: Reason) -> Pen {
 }
 
 // How many bytes of a number are there, by what is wrong with it.
-fn say_bytes(p: Pen, number: u8, n: u64) -> Pen {
+fn say_bytes(p: Pen<'_>, number: u8, n: u64) -> Pen<'_> {
     if number == 21 {
         return pen::text(
             p,
@@ -97,7 +97,7 @@ fn say_bytes(p: Pen, number: u8, n: u64) -> Pen {
     pen::form(p, b"  bytes of the number: %\n", n, 0, 0, 0)
 }
 
-fn say_name(p: Pen, number: u8, n: u64, there: u64) -> Pen {
+fn say_name(p: Pen<'_>, number: u8, n: u64, there: u64) -> Pen<'_> {
     if number == 20 {
         return pen::form(
             p,
@@ -118,13 +118,13 @@ fn say_name(p: Pen, number: u8, n: u64, there: u64) -> Pen {
     )
 }
 
-fn say_sum(p: Pen, z: i64, d: i64) -> Pen {
+fn say_sum(p: Pen<'_>, z: i64, d: i64) -> Pen<'_> {
     let q = say_signed(pen::text(p, b"  the reading before is "), z);
     let r = say_signed(pen::text(q, b", and the difference to it "), d);
     pen::text(r, b": together they leave 64 bits\n")
 }
 
-fn say_facts(p: Pen, number: u8, facts: Facts) -> Pen {
+fn say_facts(p: Pen<'_>, number: u8, facts: Facts) -> Pen<'_> {
     match facts {
         Facts::Bytes(n) => say_bytes(p, number, n),
         Facts::Name(n, there) => say_name(p, number, n, there),
@@ -141,12 +141,12 @@ fn say_facts(p: Pen, number: u8, facts: Facts) -> Pen {
 }
 
 // The reason of a column's fault.
-pub fn say(p: Pen, r: Reason) -> Pen {
+pub fn say(p: Pen<'_>, r: Reason) -> Pen<'_> {
     let facts = r.facts;
     say_facts(say_run(p, r), r.number, facts)
 }
 
-fn say_row(p: Pen, r: Row) -> Pen {
+fn say_row(p: Pen<'_>, r: Row) -> Pen<'_> {
     match r {
         Row::Nowhere => p,
         Row::At(i) => pen::form(
@@ -160,12 +160,12 @@ fn say_row(p: Pen, r: Row) -> Pen {
     }
 }
 
-fn say_spec(p: Pen, text: &[u8], spec: u32) -> Pen {
+fn say_spec<'p>(p: Pen<'p>, text: &[u8], spec: u32) -> Pen<'p> {
     pen::hex(pen::text(pen::text(p, text), b"0x"), spec as u64)
 }
 
 // What lengths add up to, where that is within 64 bits.
-fn say_lengths(p: Pen, high: u64, low: u64, room: u64) -> Pen {
+fn say_lengths(p: Pen<'_>, high: u64, low: u64, room: u64) -> Pen<'_> {
     if 0 < high {
         return pen::form(
             p,
@@ -186,7 +186,7 @@ fn say_lengths(p: Pen, high: u64, low: u64, room: u64) -> Pen {
     )
 }
 
-fn say_falls(p: Pen, before: u32, spec: u32) -> Pen {
+fn say_falls(p: Pen<'_>, before: u32, spec: u32) -> Pen<'_> {
     let q = say_spec(p, b"  its specification is ", spec);
     pen::text(
         say_spec(q, b", and that of the row before, ", before),
@@ -194,7 +194,7 @@ fn say_falls(p: Pen, before: u32, spec: u32) -> Pen {
     )
 }
 
-fn say_table_facts(p: Pen, number: u8, facts: TableFacts) -> Pen {
+fn say_table_facts(p: Pen<'_>, number: u8, facts: TableFacts) -> Pen<'_> {
     match facts {
         TableFacts::Bytes(n) => say_bytes(p, number, n),
         TableFacts::Columns(n) => pen::form(
@@ -215,7 +215,7 @@ fn say_table_facts(p: Pen, number: u8, facts: TableFacts) -> Pen {
 }
 
 // The reason of a table's fault.
-pub fn say_table(p: Pen, r: TableReason) -> Pen {
+pub fn say_table(p: Pen<'_>, r: TableReason) -> Pen<'_> {
     let row = r.row;
     let facts = r.facts;
     say_table_facts(say_row(p, row), r.number, facts)

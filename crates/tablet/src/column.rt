@@ -3,6 +3,8 @@ use crate::parts::{between, plus};
 use crate::pen::Desk;
 use crate::{cut, files, pen, refusals, words};
 use decimal::Decimal;
+use std::fs::File;
+use std::rt::Files;
 
 // A column that the table has: its position, its specification, and where it begins and ends in its block, which has `size` bytes; or a
 // refusal's number and place. The number is 0 where there is none.
@@ -136,13 +138,13 @@ fn found(path: &[u8], block: &[u8], position: usize, desk: Desk) -> Column {
 }
 
 // The column that words 1 and 2 name, of the file that is read into the block. What is wrong is said.
-pub fn open(line: &[u8], block: &mut [u8], desk: Desk) -> Column {
+pub fn open(rt: &impl Files<File = File>, line: &[u8], block: &mut [u8], desk: Desk) -> Column {
     let position = place(words::word(line, 2), b"a column's position", desk);
     if position == MISSING {
         return none(NO_BLOCK, 0);
     }
     let path = words::word(line, 1);
-    let n = files::read(path, block, desk);
+    let n = files::read(rt, path, block, desk);
     if n == files::FAILED {
         return none(NO_BLOCK, position);
     }

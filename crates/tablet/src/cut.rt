@@ -23,7 +23,7 @@ pub fn broken(block: &[u8]) -> Piece {
 }
 
 // What is known of a block that ends too early.
-pub fn explain(p: Pen, block: &[u8]) -> Pen {
+pub fn explain<'p>(p: Pen<'p>, block: &[u8]) -> Pen<'p> {
     let position = find(block, rows::count(block));
     let c = rows::piece_at(block, position);
     let ends = pen::form(
@@ -38,7 +38,7 @@ pub fn explain(p: Pen, block: &[u8]) -> Pen {
     say_fault(say_had(ends, c), part, position, c.spec)
 }
 
-fn say_had(p: Pen, c: Piece) -> Pen {
+fn say_had(p: Pen<'_>, c: Piece) -> Pen<'_> {
     pen::form(
         kinds::say(p, c.spec, 0),
         b", id %), which begins at byte %: % of its % bytes are there\n",
@@ -50,7 +50,7 @@ fn say_had(p: Pen, c: Piece) -> Pen {
 }
 
 // The bytes that are there, read as far as they go.
-fn say_fault(p: Pen, part: &[u8], position: usize, spec: u32) -> Pen {
+fn say_fault<'p>(p: Pen<'p>, part: &[u8], position: usize, spec: u32) -> Pen<'p> {
     let q = pen::form(p, b"  column %: ", position as u64, 0, 0, 0);
     match walk::count(part, kinds::of_spec(spec)) {
         Answer::Done(_) => pen::text(

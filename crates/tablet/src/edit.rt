@@ -7,8 +7,10 @@ use crate::kinds::Kind;
 use crate::parts::{after, between};
 use crate::pen::{Desk, Pen};
 use crate::range::Range;
-use crate::{apply, column, files, given, help, kinds, pen, range, rooms, walk, words};
+use crate::{apply, column, files, given, help, kinds, parts, pen, range, rooms, walk, words};
 use encoding::Answer;
+use std::fs::File;
+use std::rt::Files;
 
 // What is edited: the range, its column's kind, how many readings that has, and whether a file that is there may be replaced.
 #[derive(Clone, Copy)]
@@ -50,7 +52,7 @@ fn plus(a: usize, b: usize) -> usize
 
 // What was written, in words: its length, and how many readings the column has now. A list of absent readings alone is written as
 // nothing, and that is said.
-fn say_done(p: Pen, part: &[u8], kind: Kind, meant: usize) -> Pen {
+fn say_done<'p>(p: Pen<'p>, part: &[u8], kind: Kind, meant: usize) -> Pen<'p> {
     let n = count_of(part, kind);
     let q = pen::form(p, b" has % readings\n", n as u64, 0, 0, 0);
     if n == meant {
@@ -59,7 +61,7 @@ fn say_done(p: Pen, part: &[u8], kind: Kind, meant: usize) -> Pen {
     say_lost(q, meant)
 }
 
-pub fn say_lost(p: Pen, meant: usize) -> Pen {
+pub fn say_lost(p: Pen<'_>, meant: usize) -> Pen<'_> {
     pen::form(
         p,
         b"  note: no reading of the list is present (absent: %); such a list is written as nothing and reads back as empty\n",
@@ -86,6 +88,7 @@ pub fn say_written(to: &[u8], block: &[u8], position: usize, meant: usize, desk:
 
 // Saves what an edit came to.
 fn finish(
+    rt: &impl Files<File = File>,
     path: &[u8],
     e: Edited,
     w: Wanted,
@@ -100,7 +103,7 @@ fn finish(
         return false;
     }
     let block = between(out, 0, e.len);
-    if files::save(to, block, w.over, desk) {
+    if files::save(rt, to, block, w.over, desk) {
         return say_written(
             to,
             block,
@@ -113,6 +116,7 @@ fn finish(
 }
 
 fn edit_with(
+    rt: &impl Files<File = File>,
     path: &[u8],
     block: &[u8],
     w: Wanted,
@@ -126,11 +130,19 @@ fn edit_with(
     let kind = w.kind;
     let range = w.range;
     let e = apply::apply(block, range, kind, names, new, present, &mut out);
-    finish(path, e, w, &out, new.len(), to, desk)
+    finish(rt, path, e, w, &out, new.len(), to, desk)
 }
 
 // The edit of a column that the block has, by readings as text.
-fn edit_column(path: &[u8], block: &[u8], w: Wanted, text: &[u8], to: &[u8], desk: Desk) -> bool {
+fn edit_column(
+    rt: &impl Files<File = File>,
+    path: &[u8],
+    block: &[u8],
+    w: Wanted,
+    text: &[u8],
+    to: &[u8],
+    desk: Desk,
+) -> bool {
     let mut names = rooms::names();
     let mut new = rooms::unsigned();
     let mut present = rooms::flags();
@@ -141,7 +153,7 @@ fn edit_column(path: &[u8], block: &[u8], w: Wanted, text: &[u8], to: &[u8], des
     }
     let all = rooms::front(&new, n);
     let here = between(&present, 0, n);
-    edit_with(path, block, w, &names, all, here, to, desk)
+    edit_with(rt, path, block, w, &names, all, here, to, desk)
 }
 
 fn wanted_of(block: &[u8], c: Column, r: Range, over: bool) -> Wanted {
@@ -156,9 +168,15 @@ fn wanted_of(block: &[u8], c: Column, r: Range, over: bool) -> Wanted {
 }
 
 // The words from 5 up to the option are readings, and the word behind it is the new file.
-fn edit_to(line: &[u8], option: usize, over: bool, desk: Desk) -> bool {
+fn edit_to(
+    rt: &impl Files<File = File>,
+    line: &[u8],
+    option: usize,
+    over: bool,
+    desk: Desk,
+) -> bool {
     let mut block = rooms::block();
-    let c = column::open(line, &mut block, desk);
+    let c = column::open(rt, line, &mut block, desk);
     if c.number != 0 {
         return false;
     }
@@ -170,7 +188,7 @@ fn edit_to(line: &[u8], option: usize, over: bool, desk: Desk) -> bool {
     let to = words::word(line, after(option));
     let whole = between(&block, 0, c.size);
     let w = wanted_of(whole, c, r, over);
-    edit_column(words::word(line, 1), whole, w, text, to, desk)
+    edit_column(rt, words::word(line, 1), whole, w, text, to, desk)
 }
 
 fn wrong(desk: Desk) -> bool {
@@ -180,21 +198,21 @@ fn wrong(desk: Desk) -> bool {
     )
 }
 
-pub fn run(line: &[u8], desk: Desk) -> bool {
+pub fn run(rt: &impl Files<File = File>, line: &[u8], desk: Desk) -> bool {
     let all = words::count(line);
     let option = words::option(line, 5);
     if all <= option {
         return wrong(desk);
     }
-    if !check::same(words::word(line, option), b"--to") {
+    if !parts::same(words::word(line, option), b"--to") {
         return wrong(desk);
     }
     if all - option == 2 {
-        return edit_to(line, option, false, desk);
+        return edit_to(rt, line, option, false, desk);
     }
     if all - option == 3 {
-        if check::same(words::word(line, after(after(option))), b"--over") {
-            return edit_to(line, option, true, desk);
+        if parts::same(words::word(line, after(after(option))), b"--over") {
+            return edit_to(rt, line, option, true, desk);
         }
     }
     wrong(desk)

@@ -17,7 +17,7 @@ pub fn losses(fate: Fate) -> usize {
 }
 
 // How many of its bytes are there, where not all are.
-fn say_had(p: Pen, c: Piece) -> Pen {
+fn say_had(p: Pen<'_>, c: Piece) -> Pen<'_> {
     if rows::is_whole(c) {
         return p;
     }
@@ -31,12 +31,12 @@ fn say_had(p: Pen, c: Piece) -> Pen {
     )
 }
 
-fn say_gone(p: Pen, readings: u64) -> Pen {
+fn say_gone(p: Pen<'_>, readings: u64) -> Pen<'_> {
     pen::form(p, b"; gone: all from index % on\n", readings, 0, 0, 0)
 }
 
 // The counts of its runs may promise more than survived.
-fn say_survived(p: Pen, announced: u64, readings: u64) -> Pen {
+fn say_survived(p: Pen<'_>, announced: u64, readings: u64) -> Pen<'_> {
     let q = pen::form(p, b"salvaged: % readings survived", readings, 0, 0, 0);
     if announced <= readings {
         return q;
@@ -45,7 +45,7 @@ fn say_survived(p: Pen, announced: u64, readings: u64) -> Pen {
 }
 
 // Absent readings alone are written as nothing, and that is said.
-fn say_unwritten(p: Pen, s: Saved) -> Pen {
+fn say_unwritten(p: Pen<'_>, s: Saved) -> Pen<'_> {
     if s.len != 0 {
         return p;
     }
@@ -55,14 +55,14 @@ fn say_unwritten(p: Pen, s: Saved) -> Pen {
     edit::say_lost(p, s.readings as usize)
 }
 
-fn say_salvaged(p: Pen, c: Piece, part: &[u8], s: Saved) -> Pen {
+fn say_salvaged<'p>(p: Pen<'p>, c: Piece, part: &[u8], s: Saved) -> Pen<'p> {
     let announced = announced::readings(part, kinds::of_spec(c.spec), s.place);
     let q = pen::text(say_survived(p, announced, s.readings), b"; ");
     let r = say_had(refusals::say(q, s.number, s.place), c);
     say_unwritten(say_gone(r, s.readings), s)
 }
 
-fn say_short(p: Pen, c: Piece, readings: u64) -> Pen {
+fn say_short(p: Pen<'_>, c: Piece, readings: u64) -> Pen<'_> {
     let q = say_had(say_survived(p, 0, readings), c);
     let r = pen::text(
         q,
@@ -71,7 +71,7 @@ fn say_short(p: Pen, c: Piece, readings: u64) -> Pen {
     say_gone(r, readings)
 }
 
-fn say_long(p: Pen, s: Saved) -> Pen {
+fn say_long(p: Pen<'_>, s: Saved) -> Pen<'_> {
     let q = refusals::say(
         pen::text(p, b"kept as it is, still broken: "),
         s.number,
@@ -87,7 +87,7 @@ fn say_long(p: Pen, s: Saved) -> Pen {
     )
 }
 
-fn say_lost(p: Pen, c: Piece, number: u8) -> Pen {
+fn say_lost(p: Pen<'_>, c: Piece, number: u8) -> Pen<'_> {
     let q = say_had(pen::text(p, b"lost, and written empty"), c);
     if number == 0 {
         return pen::text(q, b"\n");
@@ -96,7 +96,7 @@ fn say_lost(p: Pen, c: Piece, number: u8) -> Pen {
 }
 
 // The column at a position, of which this part was there.
-pub fn say(p: Pen, position: usize, c: Piece, part: &[u8], s: Saved) -> Pen {
+pub fn say<'p>(p: Pen<'p>, position: usize, c: Piece, part: &[u8], s: Saved) -> Pen<'p> {
     let named = kinds::say(
         pen::form(p, b"column %, ", position as u64, 0, 0, 0),
         c.spec,

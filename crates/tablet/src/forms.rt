@@ -42,7 +42,7 @@ pub fn is_absent(part: &[u8], kind: Kind) -> bool {
     our_len(part, kind) == 0 && 0 < number_of(walk::count(part, kind))
 }
 
-pub fn say_bytes(p: Pen, n: usize) -> Pen {
+pub fn say_bytes(p: Pen<'_>, n: usize) -> Pen<'_> {
     if n == 1 {
         return pen::text(p, b"1 byte");
     }
@@ -50,7 +50,7 @@ pub fn say_bytes(p: Pen, n: usize) -> Pen {
 }
 
 // Of a column that is not in our form: how much more or less room it takes.
-pub fn say(p: Pen, part: &[u8], kind: Kind) -> Pen {
+pub fn say<'p>(p: Pen<'p>, part: &[u8], kind: Kind) -> Pen<'p> {
     let q = pen::text(p, b"not our form: ");
     if is_absent(part, kind) {
         return pen::text(q, b"absent readings alone, for which ours has no bytes");

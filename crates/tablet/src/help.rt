@@ -2,7 +2,7 @@
 use crate::pen;
 use crate::pen::{Desk, Pen};
 
-fn say_looking(p: Pen) -> Pen {
+fn say_looking(p: Pen<'_>) -> Pen<'_> {
     pen::text(
         p,
         b"tablet: looks at blocks of columns, draws them, edits them, makes them and saves what is left of them
@@ -22,7 +22,7 @@ fn say_looking(p: Pen) -> Pen {
     )
 }
 
-fn say_writing(p: Pen) -> Pen {
+fn say_writing(p: Pen<'_>) -> Pen<'_> {
     pen::text(
         p,
         b"  tablet edit FILE COLUMN START END READING.. --to OUT [--over]
@@ -49,7 +49,7 @@ fn say_writing(p: Pen) -> Pen {
     )
 }
 
-fn say_rules(p: Pen) -> Pen {
+fn say_rules(p: Pen<'_>) -> Pen<'_> {
     pen::text(
         p,
         b"
@@ -73,7 +73,7 @@ What goes wrong is said on standard error, and ./tablet then ends with status 1.
     )
 }
 
-pub fn say(p: Pen) -> Pen {
+pub fn say(p: Pen<'_>) -> Pen<'_> {
     say_rules(say_writing(say_looking(p)))
 }
 

@@ -63,7 +63,7 @@ pub fn is_text(kind: Kind) -> bool {
 }
 
 // The type in words, in a field of so many places.
-pub fn say(p: Pen, spec: u32, width: usize) -> Pen {
+pub fn say(p: Pen<'_>, spec: u32, width: usize) -> Pen<'_> {
     let t = number(spec);
     let names = b"group\0actor\0integer\0delta integer\0boolean\0text\0value metadata\0value\0";
     pen::padded(p, words::word(names, t as usize), width)

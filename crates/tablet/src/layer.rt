@@ -4,14 +4,16 @@ use crate::pen::{Desk, Pen};
 use crate::{column, files, help, kinds, make, parts, pen, refusals, rooms, words};
 use corrections::Layered;
 use raw_column::Table;
+use std::fs::File;
+use std::rt::Files;
 
 // No specification is so large.
 const NONE: u64 = u64::MAX;
 
 // What was said and written so far: how many bytes of the new table and of the new data, and how many columns.
 #[derive(Clone, Copy)]
-struct Sofar {
-    pen: Pen,
+struct Sofar<'p> {
+    pen: Pen<'p>,
     table: usize,
     data: usize,
     columns: usize,
@@ -37,7 +39,13 @@ fn lesser(a: u64, b: u64) -> u64 {
 }
 
 // The file that shows the column.
-fn say_whose<'a>(p: Pen, line: &[u8], later: &'a [u8], older: &'a [u8], spec: u32) -> Pen {
+fn say_whose<'a, 'p>(
+    p: Pen<'p>,
+    line: &[u8],
+    later: &'a [u8],
+    older: &'a [u8],
+    spec: u32,
+) -> Pen<'p> {
     match corrections::locate(later, older, spec) {
         Layered::Corrections(_) => pen::text(p, words::word(line, 1)),
         Layered::First(_) => pen::text(p, words::word(line, 2)),
@@ -45,7 +53,14 @@ fn say_whose<'a>(p: Pen, line: &[u8], later: &'a [u8], older: &'a [u8], spec: u3
     }
 }
 
-fn say<'a>(p: Pen, line: &[u8], later: &'a [u8], older: &'a [u8], s: Sofar, spec: u32) -> Pen {
+fn say<'a, 'p>(
+    p: Pen<'p>,
+    line: &[u8],
+    later: &'a [u8],
+    older: &'a [u8],
+    s: Sofar<'p>,
+    spec: u32,
+) -> Pen<'p> {
     let len = corrections::bytes(later, older, spec).len();
     let named = kinds::say(
         pen::form(p, b"column %, ", s.columns as u64, 0, 0, 0),
@@ -64,15 +79,15 @@ fn say<'a>(p: Pen, line: &[u8], later: &'a [u8], older: &'a [u8], s: Sofar, spec
 }
 
 // One column more: its bytes, its row, and what is said of it.
-fn add<'a>(
+fn add<'a, 'p>(
     line: &[u8],
     later: &'a [u8],
     older: &'a [u8],
     spec: u32,
     table: &mut [u8],
     data: &mut [u8],
-    s: Sofar,
-) -> Sofar {
+    s: Sofar<'p>,
+) -> Sofar<'p> {
     let part = corrections::bytes(later, older, spec);
     let row = make::put(table, s.table, spec as u64);
     let p = s.pen;
@@ -85,14 +100,14 @@ fn add<'a>(
 }
 
 // A column for each specification that one of the two tables has, in order. `least` answers one of a table's, so 32 bits hold it.
-fn add_all<'a>(
+fn add_all<'a, 'p>(
     line: &[u8],
     later: &'a [u8],
     older: &'a [u8],
     table: &mut [u8],
     data: &mut [u8],
-    begun: Sofar,
-) -> Sofar {
+    begun: Sofar<'p>,
+) -> Sofar<'p> {
     let c = raw_column::read_table(later);
     let f = raw_column::read_table(older);
     let mut s = begun;
@@ -107,7 +122,7 @@ fn add_all<'a>(
 }
 
 // The refusal that the new block would have: 11, or 10 where this tool has no room for it. 0 where there is none.
-fn refusal(s: Sofar) -> u8 {
+fn refusal(s: Sofar<'_>) -> u8 {
     if 64 < s.columns {
         return 11;
     }
@@ -117,7 +132,15 @@ fn refusal(s: Sofar) -> u8 {
     0
 }
 
-fn save(to: &[u8], table: &[u8], data: &[u8], s: Sofar, over: bool, desk: Desk) -> bool {
+fn save(
+    rt: &impl Files<File = File>,
+    to: &[u8],
+    table: &[u8],
+    data: &[u8],
+    s: Sofar<'_>,
+    over: bool,
+    desk: Desk,
+) -> bool {
     let number = refusal(s);
     if number != 0 {
         pen::text(
@@ -127,6 +150,7 @@ fn save(to: &[u8], table: &[u8], data: &[u8], s: Sofar, over: bool, desk: Desk) 
         return false;
     }
     if !files::save_both(
+        rt,
         to,
         between(table, 0, s.table),
         between(data, 0, s.data),
@@ -147,7 +171,14 @@ fn save(to: &[u8], table: &[u8], data: &[u8], s: Sofar, over: bool, desk: Desk) 
 }
 
 // Two blocks whose tables have no fault. How many columns there are is known at the end, and takes one byte where it is no refusal.
-fn layer_blocks<'a>(line: &[u8], later: &'a [u8], older: &'a [u8], over: bool, desk: Desk) -> bool {
+fn layer_blocks<'a>(
+    rt: &impl Files<File = File>,
+    line: &[u8],
+    later: &'a [u8],
+    older: &'a [u8],
+    over: bool,
+    desk: Desk,
+) -> bool {
     let mut table = [0u8; 2048];
     let mut data = rooms::block();
     let begun = Sofar {
@@ -158,7 +189,7 @@ fn layer_blocks<'a>(line: &[u8], later: &'a [u8], older: &'a [u8], over: bool, d
     };
     let s = add_all(line, later, older, &mut table, &mut data, begun);
     make::put(&mut table, 0, s.columns as u64);
-    save(words::word(line, 4), &table, &data, s, over, desk)
+    save(rt, words::word(line, 4), &table, &data, s, over, desk)
 }
 
 fn is_sound(path: &[u8], block: &[u8], desk: Desk) -> bool {
@@ -171,11 +202,11 @@ fn is_sound(path: &[u8], block: &[u8], desk: Desk) -> bool {
 }
 
 // CORRECTIONS FIRST --to OUT.
-fn layer(line: &[u8], over: bool, desk: Desk) -> bool {
+fn layer(rt: &impl Files<File = File>, line: &[u8], over: bool, desk: Desk) -> bool {
     let mut later = rooms::block();
     let mut older = rooms::block();
-    let n = files::read(words::word(line, 1), &mut later, desk);
-    let m = files::read(words::word(line, 2), &mut older, desk);
+    let n = files::read(rt, words::word(line, 1), &mut later, desk);
+    let m = files::read(rt, words::word(line, 2), &mut older, desk);
     if n == files::FAILED || m == files::FAILED {
         return false;
     }
@@ -187,29 +218,29 @@ fn layer(line: &[u8], over: bool, desk: Desk) -> bool {
     if !is_sound(words::word(line, 2), f, desk) {
         return false;
     }
-    if !files::is_free(words::word(line, 4), over, desk) {
+    if !files::is_free(rt, words::word(line, 4), over, desk) {
         return false;
     }
-    layer_blocks(line, c, f, over, desk)
+    layer_blocks(rt, line, c, f, over, desk)
 }
 
 fn wrong(desk: Desk) -> bool {
     help::wrong(b"layer CORRECTIONS FIRST --to OUT [--over]", desk)
 }
 
-pub fn run(line: &[u8], desk: Desk) -> bool {
+pub fn run(rt: &impl Files<File = File>, line: &[u8], desk: Desk) -> bool {
     let all = words::count(line);
-    if !check::same(words::word(line, 3), b"--to") {
+    if !parts::same(words::word(line, 3), b"--to") {
         return wrong(desk);
     }
     if all == 5 {
-        return layer(line, false, desk);
+        return layer(rt, line, false, desk);
     }
     if all != 6 {
         return wrong(desk);
     }
-    if check::same(words::word(line, 5), b"--over") {
-        return layer(line, true, desk);
+    if parts::same(words::word(line, 5), b"--over") {
+        return layer(rt, line, true, desk);
     }
     wrong(desk)
 }

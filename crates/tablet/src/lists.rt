@@ -2,7 +2,7 @@
 // count, and a comma between double quotes parts nothing.
 use crate::kinds::Kind;
 use crate::parts::{NO_ROOM, after, between, find, plus};
-use crate::{kinds, names, numbers};
+use crate::{kinds, names, numbers, parts};
 use decimal::{Decimal, Reading};
 
 // What is wrong with a reading.
@@ -89,7 +89,7 @@ fn read_item(s: &[u8], kind: Kind) -> Item {
 
 // A name, put among the names at the index at which it is given: it is not longer than that text.
 fn read_name(s: &[u8], names: &mut [u8], at: usize) -> Item {
-    if check::same(s, b"-") {
+    if parts::same(s, b"-") {
         return item_with(0, 0, 0, 1);
     }
     if names.len() < plus(at, s.len()) {

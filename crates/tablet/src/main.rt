@@ -1,7 +1,9 @@
 // The tool a desk uses: it looks at blocks of columns, draws them, edits them, makes them and saves what is left of them. `help.rt` says how it is used.
 //
-// What was asked for goes to standard output, and what went wrong to standard error: a program has no exit status, and the script
+// What was asked for goes to standard output, and what went wrong to standard error: the program ends with status 0 either way, and the script
 // ./tablet makes one of that.
+#![tactic(auto)]
+
 mod announced;
 mod apply;
 mod around;
@@ -45,31 +47,36 @@ mod walk;
 mod why;
 mod words;
 
-use pen::Desk;
+use pen::{Desk, Sheet};
+use std::fs::File;
+use std::rt::Files;
 
 // A script is no command of a script.
-fn run(line: &[u8]) -> bool {
-    let desk = Desk { out: 1, notes: 2 };
+fn run(rt: &impl Files<File = File>, line: &[u8], desk: Desk) -> bool {
     let name = words::word(line, 0);
     if name.len() == 0 {
-        help::say(pen::text(pen::on(2), b"tablet: no command was given\n\n"));
+        help::say(pen::text(pen::on(desk.notes), b"tablet: no command was given\n\n"));
         return false;
     }
-    if check::same(name, b"script") {
-        return script::run(line);
+    if parts::same(name, b"script") {
+        return script::run(rt, line, desk);
     }
-    commands::run(line, desk)
+    commands::run(rt, line, desk)
 }
 
-fn main() {
+fn main(rt: HostRuntime) {
+    let desk = Desk {
+        out: Sheet::Out(rt.stdout()),
+        notes: Sheet::Notes(rt.stderr()),
+    };
     let mut line = rooms::block();
-    let n = words::arguments(&mut line);
+    let n = words::arguments(&rt, &mut line);
     if n == parts::NO_ROOM {
         pen::text(
-            pen::on(2),
+            pen::on(desk.notes),
             b"tablet: the words of the command are longer than the 524,288 bytes that this tool takes; tablet script takes long lists\n",
         );
         return;
     }
-    run(parts::between(&line, 0, n));
+    run(&rt, parts::between(&line, 0, n), desk);
 }

@@ -2,11 +2,13 @@
 use crate::parts::{after, between, find};
 use crate::pen::Desk;
 use crate::range::Range;
-use crate::{apply, column, edit, files, given, help, kinds, pen, refusals, rooms, words};
+use crate::{apply, column, edit, files, given, help, kinds, parts, pen, refusals, rooms, words};
 use column_specification::{ColumnSpec, ColumnType, Packed};
 use decimal::Decimal;
 use leb128_writer::Written;
 use splice::End;
+use std::fs::File;
+use std::rt::Files;
 
 // The block is left as it is, and what is wrong was said.
 const STOPPED: usize = usize::MAX;
@@ -234,7 +236,7 @@ fn say_done(to: &[u8], len: usize, n: usize, desk: Desk) -> bool {
 }
 
 // The table, then the columns, then the file.
-fn make(line: &[u8], n: usize, over: bool, desk: Desk) -> bool {
+fn make(rt: &impl Files<File = File>, line: &[u8], n: usize, over: bool, desk: Desk) -> bool {
     let mut block = rooms::block();
     let to = words::word(line, 1);
     let table = put_table(line, n, &mut block, desk);
@@ -248,24 +250,24 @@ fn make(line: &[u8], n: usize, over: bool, desk: Desk) -> bool {
     if len == STOPPED {
         return false;
     }
-    if files::save(to, between(&block, 0, len), over, desk) {
+    if files::save(rt, to, between(&block, 0, len), over, desk) {
         return say_done(to, len, n, desk);
     }
     false
 }
 
-pub fn run(line: &[u8], desk: Desk) -> bool {
+pub fn run(rt: &impl Files<File = File>, line: &[u8], desk: Desk) -> bool {
     let all = words::count(line);
     let end = words::option(line, 2);
     if end < 3 {
         return help::wrong(b"make OUT COLUMN.. [--over]", desk);
     }
     if end == all {
-        return make(line, end - 2, false, desk);
+        return make(rt, line, end - 2, false, desk);
     }
     if after(end) == all {
-        if check::same(words::word(line, end), b"--over") {
-            return make(line, end - 2, true, desk);
+        if parts::same(words::word(line, end), b"--over") {
+            return make(rt, line, end - 2, true, desk);
         }
     }
     help::wrong(b"make OUT COLUMN.. [--over]", desk)

@@ -189,7 +189,7 @@ fn is_bare(s: &[u8]) -> bool {
 }
 
 // A byte of a name in quotes.
-fn say_byte(p: Pen, s: &[u8], i: usize) -> Pen {
+fn say_byte<'p>(p: Pen<'p>, s: &[u8], i: usize) -> Pen<'p> {
     let b = byte_at(s, i);
     if b == b'"' {
         return pen::text(p, b"\"\"");
@@ -200,7 +200,7 @@ fn say_byte(p: Pen, s: &[u8], i: usize) -> Pen {
     pen::text(p, &[b])
 }
 
-fn say_quoted(p: Pen, s: &[u8]) -> Pen {
+fn say_quoted<'p>(p: Pen<'p>, s: &[u8]) -> Pen<'p> {
     let mut q = pen::text(p, b"\"");
     let mut i = 0;
     while i < s.len() {
@@ -211,7 +211,7 @@ fn say_quoted(p: Pen, s: &[u8]) -> Pen {
 }
 
 // A name as it can be given.
-pub fn say(p: Pen, s: &[u8]) -> Pen {
+pub fn say<'p>(p: Pen<'p>, s: &[u8]) -> Pen<'p> {
     if is_bare(s) {
         return pen::text(p, s);
     }

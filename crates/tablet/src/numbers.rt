@@ -17,7 +17,7 @@ pub fn reading_of(s: &[u8], kind: Kind) -> Reading {
     if kinds::is_yes_no(kind) {
         return yes_no(s);
     }
-    if check::same(s, b"-") {
+    if parts::same(s, b"-") {
         return Reading::Absent;
     }
     if kinds::is_signed(kind) {
@@ -26,14 +26,14 @@ pub fn reading_of(s: &[u8], kind: Kind) -> Reading {
     decimal::unsigned_of(s)
 }
 
-fn say_yes_no(p: Pen, value: u64) -> Pen {
+fn say_yes_no(p: Pen<'_>, value: u64) -> Pen<'_> {
     if value == 0 {
         return pen::text(p, b"false");
     }
     pen::text(p, b"true")
 }
 
-fn say_signed(p: Pen, value: u64) -> Pen {
+fn say_signed(p: Pen<'_>, value: u64) -> Pen<'_> {
     if value < HALF {
         return pen::number(pen::text(p, b"-"), HALF - value);
     }
@@ -41,7 +41,7 @@ fn say_signed(p: Pen, value: u64) -> Pen {
 }
 
 // A reading that is kept, as text.
-pub fn say(p: Pen, kind: Kind, value: u64) -> Pen {
+pub fn say(p: Pen<'_>, kind: Kind, value: u64) -> Pen<'_> {
     match kind {
         Kind::Signed => say_signed(p, value),
         Kind::Unsigned => pen::number(p, value),

@@ -41,12 +41,17 @@ pub fn byte_at(s: &[u8], i: usize) -> u8 {
     if i < s.len() { s[i] } else { 0 }
 }
 
+// Are two texts the same?
+pub fn same(s: &[u8], t: &[u8]) -> bool {
+    s == t
+}
+
 // Does s begin with this text?
 pub fn begins(s: &[u8], start: &[u8]) -> bool {
     if s.len() < start.len() {
         return false;
     }
-    check::same(between(s, 0, start.len()), start)
+    same(between(s, 0, start.len()), start)
 }
 
 // Where there is no room for a text.

@@ -1,6 +1,6 @@
 // A range of readings, as a command names it by the words 3 and 4: START END. END may be `end`, for all readings from START on.
 use crate::pen::Desk;
-use crate::{column, words};
+use crate::{column, parts, words};
 use splice::End;
 
 // The column and the range of its readings.
@@ -13,7 +13,7 @@ pub struct Range {
 
 pub fn of_line(line: &[u8], position: usize, desk: Desk) -> Range {
     let start = column::place(words::word(line, 3), b"START", desk);
-    if check::same(words::word(line, 4), b"end") {
+    if parts::same(words::word(line, 4), b"end") {
         return Range {
             position,
             start,

@@ -7,8 +7,10 @@ use crate::walk::Walked;
 use crate::{column, help, kinds, names, numbers, pen, range, rooms, walk, words};
 use encoding::Answer;
 use splice::End;
+use std::fs::File;
+use std::rt::Files;
 
-fn say_line(p: Pen, kind: Kind, value: u64, here: u8) -> Pen {
+fn say_line(p: Pen<'_>, kind: Kind, value: u64, here: u8) -> Pen<'_> {
     if here == 0 {
         return pen::text(p, b"-\n");
     }
@@ -17,14 +19,14 @@ fn say_line(p: Pen, kind: Kind, value: u64, here: u8) -> Pen {
 
 // What was said, and the refusal that the walk met, where it met one.
 #[derive(Clone, Copy)]
-struct Said {
-    pen: Pen,
+struct Said<'p> {
+    pen: Pen<'p>,
     number: u8,
     place: usize,
 }
 
 // The readings from a up to e.
-fn say_between(p: Pen, part: &[u8], kind: Kind, a: usize, e: usize) -> Said {
+fn say_between<'p>(p: Pen<'p>, part: &[u8], kind: Kind, a: usize, e: usize) -> Said<'p> {
     let mut q = p;
     let mut w = walk::begin(part, kind);
     let mut i = 0;
@@ -54,7 +56,7 @@ fn say_between(p: Pen, part: &[u8], kind: Kind, a: usize, e: usize) -> Said {
 }
 
 // The name of so many bytes from `start` on.
-fn say_name(p: Pen, part: &[u8], start: u64, len: u64, here: u8) -> Pen {
+fn say_name<'p>(p: Pen<'p>, part: &[u8], start: u64, len: u64, here: u8) -> Pen<'p> {
     if here == 0 {
         return pen::text(p, b"-\n");
     }
@@ -62,15 +64,15 @@ fn say_name(p: Pen, part: &[u8], start: u64, len: u64, here: u8) -> Pen {
     pen::text(names::say(p, between(part, start as usize, end)), b"\n")
 }
 
-fn say_names(
-    p: Pen,
+fn say_names<'p>(
+    p: Pen<'p>,
     part: &[u8],
     starts: &[u64],
     lens: &[u64],
     present: &[u8],
     a: usize,
     e: usize,
-) -> Pen {
+) -> Pen<'p> {
     let mut q = p;
     let mut i = a;
     while i < e {
@@ -155,9 +157,9 @@ fn range_of(line: &[u8], all: usize, position: usize, desk: Desk) -> Range {
     }
 }
 
-fn read(line: &[u8], all: usize, desk: Desk) -> bool {
+fn read(rt: &impl Files<File = File>, line: &[u8], all: usize, desk: Desk) -> bool {
     let mut block = rooms::block();
-    let c = column::open(line, &mut block, desk);
+    let c = column::open(rt, line, &mut block, desk);
     if c.number != 0 {
         return false;
     }
@@ -170,13 +172,13 @@ fn read(line: &[u8], all: usize, desk: Desk) -> bool {
     read_part(words::word(line, 1), part, kind, r, desk)
 }
 
-pub fn run(line: &[u8], desk: Desk) -> bool {
+pub fn run(rt: &impl Files<File = File>, line: &[u8], desk: Desk) -> bool {
     let all = words::count(line);
     if all == 3 {
-        return read(line, all, desk);
+        return read(rt, line, all, desk);
     }
     if all == 5 {
-        return read(line, all, desk);
+        return read(rt, line, all, desk);
     }
     help::wrong(b"read FILE COLUMN [START END]", desk)
 }

@@ -7,7 +7,7 @@ use leb128::ParsedU64;
 const CUT_NAME: u8 = 254;
 
 // Refusal n is word n.
-fn say_words(p: Pen, number: u8) -> Pen {
+fn say_words(p: Pen<'_>, number: u8) -> Pen<'_> {
     if number == CUT_NAME {
         return pen::text(p, b"the bytes end inside the name whose length stands");
     }
@@ -48,7 +48,7 @@ fn is_of_bytes(number: u8) -> bool {
 }
 
 // Places inside bytes are bytes, and those inside a list are indices; the other refusals have none.
-fn say_place(p: Pen, number: u8, place: usize) -> Pen {
+fn say_place(p: Pen<'_>, number: u8, place: usize) -> Pen<'_> {
     let n = if number == CUT_NAME { 1 } else { number as u64 };
     if is_of_bytes(number) {
         return pen::form(p, b" at byte % (refusal %)", place as u64, n, 0, 0);
@@ -79,12 +79,12 @@ pub fn cut_name(number: u8, name: bool) -> u8 {
 }
 
 // A refusal in words, with its place and its number.
-pub fn say(p: Pen, number: u8, place: usize) -> Pen {
+pub fn say(p: Pen<'_>, number: u8, place: usize) -> Pen<'_> {
     say_place(say_words(p, number), number, place)
 }
 
 // A refusal of a table. What is amiss in its bytes is said to be the table's.
-pub fn say_of_table(p: Pen, number: u8, place: usize) -> Pen {
+pub fn say_of_table(p: Pen<'_>, number: u8, place: usize) -> Pen<'_> {
     if is_of_bytes(number) {
         return say(pen::text(p, b"in the table "), number, place);
     }

@@ -5,11 +5,13 @@ use crate::parts::between;
 use crate::pen::{Desk, Pen};
 use crate::{column, edit, files, help, kept, kinds, numbers, parts, pen, refusals, rooms, words};
 use pen_log::{LogEntry, Replayed};
+use std::fs::File;
+use std::rt::Files;
 
 // What was said so far, and where in the log the next entry begins.
 #[derive(Clone, Copy)]
-struct Told {
-    pen: Pen,
+struct Told<'p> {
+    pen: Pen<'p>,
     at: usize,
 }
 
@@ -21,12 +23,12 @@ struct Wanted {
     over: bool,
 }
 
-fn say_depth(p: Pen, x: i64) -> Pen {
+fn say_depth(p: Pen<'_>, x: i64) -> Pen<'_> {
     pen::text(numbers::say(p, Kind::Signed, kept::kept(x)), b"\n")
 }
 
 // What an entry does; of one that cannot be read nothing is said, as the replay refuses it.
-fn say_entry(p: Pen, n: usize, e: LogEntry) -> Pen {
+fn say_entry(p: Pen<'_>, n: usize, e: LogEntry) -> Pen<'_> {
     match e {
         LogEntry::Insert(i, x, _) => say_depth(
             pen::form(p, b"entry %: inserts at % ", n as u64, i as u64, 0, 0),
@@ -75,7 +77,7 @@ fn behind(log: &[u8], e: LogEntry) -> usize {
 }
 
 // The first entries in words, so many at most. An entry has a byte at least, so there are no more of them than bytes.
-fn tell(p: Pen, log: &[u8], most: usize) -> Told {
+fn tell<'p>(p: Pen<'p>, log: &[u8], most: usize) -> Told<'p> {
     let mut q = p;
     let mut at = 0;
     let mut i = 0;
@@ -91,7 +93,15 @@ fn tell(p: Pen, log: &[u8], most: usize) -> Told {
 }
 
 // The block with the new column at its place.
-fn save(block: &[u8], w: Wanted, new: &[u8], readings: u64, to: &[u8], desk: Desk) -> bool {
+fn save(
+    rt: &impl Files<File = File>,
+    block: &[u8],
+    w: Wanted,
+    new: &[u8],
+    readings: u64,
+    to: &[u8],
+    desk: Desk,
+) -> bool {
     let mut out = rooms::block();
     let c = w.column;
     let f = block_frame::put_frame(block, c.position, new.len(), &mut out);
@@ -104,7 +114,7 @@ fn save(block: &[u8], w: Wanted, new: &[u8], readings: u64, to: &[u8], desk: Des
     }
     parts::put(&mut out, f.at, new);
     let whole = between(&out, 0, f.len);
-    if files::save(to, whole, w.over, desk) {
+    if files::save(rt, to, whole, w.over, desk) {
         return edit::say_written(to, whole, c.position, readings as usize, desk);
     }
     false
@@ -121,7 +131,14 @@ fn say_refused(line: &[u8], position: usize, number: u8, place: usize, desk: Des
 }
 
 // The part of the log that is replayed, over the column's part.
-fn follow(line: &[u8], block: &[u8], log: &[u8], w: Wanted, desk: Desk) -> bool {
+fn follow(
+    rt: &impl Files<File = File>,
+    line: &[u8],
+    block: &[u8],
+    log: &[u8],
+    w: Wanted,
+    desk: Desk,
+) -> bool {
     let mut values = rooms::signed();
     let mut present = rooms::flags();
     let mut new = rooms::block();
@@ -129,6 +146,7 @@ fn follow(line: &[u8], block: &[u8], log: &[u8], w: Wanted, desk: Desk) -> bool 
     let part = between(block, c.start, c.end);
     match pen_log::replay(part, log, &mut values, &mut present, &mut new) {
         Replayed::Written(readings, len) => save(
+            rt,
             block,
             w,
             between(&new, 0, len),
@@ -143,9 +161,15 @@ fn follow(line: &[u8], block: &[u8], log: &[u8], w: Wanted, desk: Desk) -> bool 
     }
 }
 
-fn replay_log(line: &[u8], block: &[u8], w: Wanted, desk: Desk) -> bool {
+fn replay_log(
+    rt: &impl Files<File = File>,
+    line: &[u8],
+    block: &[u8],
+    w: Wanted,
+    desk: Desk,
+) -> bool {
     let mut room = rooms::block();
-    let n = files::read(words::word(line, 3), &mut room, desk);
+    let n = files::read(rt, words::word(line, 3), &mut room, desk);
     if n == files::FAILED {
         return false;
     }
@@ -154,12 +178,12 @@ fn replay_log(line: &[u8], block: &[u8], w: Wanted, desk: Desk) -> bool {
     if !pen::finish(t.pen, desk) {
         return false;
     }
-    follow(line, block, between(log, 0, t.at), w, desk)
+    follow(rt, line, block, between(log, 0, t.at), w, desk)
 }
 
-fn replay(line: &[u8], most: usize, over: bool, desk: Desk) -> bool {
+fn replay(rt: &impl Files<File = File>, line: &[u8], most: usize, over: bool, desk: Desk) -> bool {
     let mut block = rooms::block();
-    let c = column::open(line, &mut block, desk);
+    let c = column::open(rt, line, &mut block, desk);
     if c.number != 0 {
         return false;
     }
@@ -174,7 +198,7 @@ fn replay(line: &[u8], most: usize, over: bool, desk: Desk) -> bool {
         );
         return false;
     }
-    if !files::is_free(words::word(line, 5), over, desk) {
+    if !files::is_free(rt, words::word(line, 5), over, desk) {
         return false;
     }
     let w = Wanted {
@@ -182,7 +206,7 @@ fn replay(line: &[u8], most: usize, over: bool, desk: Desk) -> bool {
         most,
         over,
     };
-    replay_log(line, between(&block, 0, c.size), w, desk)
+    replay_log(rt, line, between(&block, 0, c.size), w, desk)
 }
 
 fn wrong(desk: Desk) -> bool {
@@ -193,34 +217,34 @@ fn wrong(desk: Desk) -> bool {
 }
 
 // Behind --at stands how many entries are replayed.
-fn replay_at(line: &[u8], over: bool, desk: Desk) -> bool {
-    if !check::same(words::word(line, 6), b"--at") {
+fn replay_at(rt: &impl Files<File = File>, line: &[u8], over: bool, desk: Desk) -> bool {
+    if !parts::same(words::word(line, 6), b"--at") {
         return wrong(desk);
     }
     let most = column::place(words::word(line, 7), b"a number of entries", desk);
     if most == column::MISSING {
         return false;
     }
-    replay(line, most, over, desk)
+    replay(rt, line, most, over, desk)
 }
 
 // What stands behind --to OUT: nothing, --over, --at ENTRIES, or both.
-pub fn run(line: &[u8], desk: Desk) -> bool {
+pub fn run(rt: &impl Files<File = File>, line: &[u8], desk: Desk) -> bool {
     let all = words::count(line);
-    if !check::same(words::word(line, 4), b"--to") {
+    if !parts::same(words::word(line, 4), b"--to") {
         return wrong(desk);
     }
     if all == 6 {
-        return replay(line, usize::MAX, false, desk);
+        return replay(rt, line, usize::MAX, false, desk);
     }
     if all == 8 {
-        return replay_at(line, false, desk);
+        return replay_at(rt, line, false, desk);
     }
-    if all == 7 && check::same(words::word(line, 6), b"--over") {
-        return replay(line, usize::MAX, true, desk);
+    if all == 7 && parts::same(words::word(line, 6), b"--over") {
+        return replay(rt, line, usize::MAX, true, desk);
     }
-    if all == 9 && check::same(words::word(line, 8), b"--over") {
-        return replay_at(line, true, desk);
+    if all == 9 && parts::same(words::word(line, 8), b"--over") {
+        return replay_at(rt, line, true, desk);
     }
     wrong(desk)
 }

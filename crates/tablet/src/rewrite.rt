@@ -2,19 +2,21 @@
 use crate::parts::{NO_ROOM, between, plus};
 use crate::pen::{Desk, Pen};
 use crate::renewed::{Change, Renewed};
-use crate::{column, files, forms, help, kinds, make, pen, refusals, renewed, rooms, words};
+use crate::{column, files, forms, help, kinds, make, parts, pen, refusals, renewed, rooms, words};
+use std::fs::File;
+use std::rt::Files;
 
 // What was said and written so far: how many bytes of the new table and of the new data, and how many columns do not read.
 #[derive(Clone, Copy)]
-struct Sofar {
-    pen: Pen,
+struct Sofar<'p> {
+    pen: Pen<'p>,
     table: usize,
     data: usize,
     bad: usize,
 }
 
 // How many bytes there were, and are now.
-fn say_saved(p: Pen, before: usize, now: usize) -> Pen {
+fn say_saved(p: Pen<'_>, before: usize, now: usize) -> Pen<'_> {
     if now < before {
         return pen::text(forms::say_bytes(p, pen::short_of(now, before)), b" saved\n");
     }
@@ -27,7 +29,7 @@ fn say_saved(p: Pen, before: usize, now: usize) -> Pen {
     pen::text(p, b"as long as before\n")
 }
 
-fn say_long(p: Pen, readings: u64) -> Pen {
+fn say_long(p: Pen<'_>, readings: u64) -> Pen<'_> {
     pen::form(
         p,
         b"left as it stands: % readings, more than the 32,768 that this tool has room for (refusal 9)\n",
@@ -38,13 +40,13 @@ fn say_long(p: Pen, readings: u64) -> Pen {
     )
 }
 
-fn say_broken(p: Pen, number: u8, place: usize) -> Pen {
+fn say_broken(p: Pen<'_>, number: u8, place: usize) -> Pen<'_> {
     let q = pen::text(p, b"left as it stands, and it does not read: ");
     pen::text(refusals::say(q, number, place), b"\n")
 }
 
 // The column at a position, which had so many bytes.
-fn say(p: Pen, position: usize, spec: u32, had: usize, r: Renewed) -> Pen {
+fn say(p: Pen<'_>, position: usize, spec: u32, had: usize, r: Renewed) -> Pen<'_> {
     let named = kinds::say(
         pen::form(p, b"column %, ", position as u64, 0, 0, 0),
         spec,
@@ -84,13 +86,13 @@ fn broken(change: Change) -> usize {
 }
 
 // One column more: its bytes, its row, and what is said of it.
-fn renew_column(
+fn renew_column<'p>(
     block: &[u8],
     position: usize,
     table: &mut [u8],
     data: &mut [u8],
-    s: Sofar,
-) -> Sofar {
+    s: Sofar<'p>,
+) -> Sofar<'p> {
     let c = column::locate(block, position);
     let part = between(block, c.start, c.end);
     let got = renewed::renew(c.spec, part, data, s.data);
@@ -107,7 +109,13 @@ fn renew_column(
 }
 
 // All n columns, or those up to one for which there is no room.
-fn renew_columns(block: &[u8], n: usize, table: &mut [u8], data: &mut [u8], begun: Sofar) -> Sofar {
+fn renew_columns<'p>(
+    block: &[u8],
+    n: usize,
+    table: &mut [u8],
+    data: &mut [u8],
+    begun: Sofar<'p>,
+) -> Sofar<'p> {
     let mut s = begun;
     let mut i = 0;
     while i < n {
@@ -121,7 +129,7 @@ fn renew_columns(block: &[u8], n: usize, table: &mut [u8], data: &mut [u8], begu
 }
 
 // The last words: the new file and what it saved, and as a note that columns do not read.
-fn say_done(path: &[u8], to: &[u8], had: usize, s: Sofar, n: usize, desk: Desk) -> bool {
+fn say_done(path: &[u8], to: &[u8], had: usize, s: Sofar<'_>, n: usize, desk: Desk) -> bool {
     let size = plus(s.table, s.data);
     let p = pen::form(
         pen::text(s.pen, to),
@@ -139,7 +147,15 @@ fn say_done(path: &[u8], to: &[u8], had: usize, s: Sofar, n: usize, desk: Desk) 
     false
 }
 
-fn rewrite_block(path: &[u8], block: &[u8], n: usize, to: &[u8], over: bool, desk: Desk) -> bool {
+fn rewrite_block(
+    rt: &impl Files<File = File>,
+    path: &[u8],
+    block: &[u8],
+    n: usize,
+    to: &[u8],
+    over: bool,
+    desk: Desk,
+) -> bool {
     let mut table = [0u8; 1024];
     let mut data = rooms::block();
     let begun = Sofar {
@@ -154,54 +170,61 @@ fn rewrite_block(path: &[u8], block: &[u8], n: usize, to: &[u8], over: bool, des
         return false;
     }
     let front = between(&table, 0, s.table);
-    if files::save_both(to, front, between(&data, 0, s.data), over, desk) {
+    if files::save_both(rt, to, front, between(&data, 0, s.data), over, desk) {
         return say_done(path, to, block.len(), s, n, desk);
     }
     false
 }
 
-fn rewrite(path: &[u8], block: &[u8], to: &[u8], over: bool, desk: Desk) -> bool {
+fn rewrite(
+    rt: &impl Files<File = File>,
+    path: &[u8],
+    block: &[u8],
+    to: &[u8],
+    over: bool,
+    desk: Desk,
+) -> bool {
     let o = raw_column::read_table(block);
     if o.number != 0 {
         column::say_table_refused(path, block, o.number, o.place, desk);
         return false;
     }
     let t = o.table;
-    rewrite_block(path, block, t.rows, to, over, desk)
+    rewrite_block(rt, path, block, t.rows, to, over, desk)
 }
 
 // FILE --to OUT.
-fn rewrite_to(line: &[u8], over: bool, desk: Desk) -> bool {
+fn rewrite_to(rt: &impl Files<File = File>, line: &[u8], over: bool, desk: Desk) -> bool {
     let mut block = rooms::block();
     let path = words::word(line, 1);
-    let n = files::read(path, &mut block, desk);
+    let n = files::read(rt, path, &mut block, desk);
     if n == files::FAILED {
         return false;
     }
     let to = words::word(line, 3);
-    if !files::is_free(to, over, desk) {
+    if !files::is_free(rt, to, over, desk) {
         return false;
     }
-    rewrite(path, between(&block, 0, n), to, over, desk)
+    rewrite(rt, path, between(&block, 0, n), to, over, desk)
 }
 
 fn wrong(desk: Desk) -> bool {
     help::wrong(b"rewrite FILE --to OUT [--over]", desk)
 }
 
-pub fn run(line: &[u8], desk: Desk) -> bool {
+pub fn run(rt: &impl Files<File = File>, line: &[u8], desk: Desk) -> bool {
     let all = words::count(line);
-    if !check::same(words::word(line, 2), b"--to") {
+    if !parts::same(words::word(line, 2), b"--to") {
         return wrong(desk);
     }
     if all == 4 {
-        return rewrite_to(line, false, desk);
+        return rewrite_to(rt, line, false, desk);
     }
     if all != 5 {
         return wrong(desk);
     }
-    if check::same(words::word(line, 4), b"--over") {
-        return rewrite_to(line, true, desk);
+    if parts::same(words::word(line, 4), b"--over") {
+        return rewrite_to(rt, line, true, desk);
     }
     wrong(desk)
 }

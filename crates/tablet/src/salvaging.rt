@@ -1,25 +1,27 @@
 // tablet salvage FILE --to OUT: a sound block of what a cut or broken one still holds.
 use crate::parts::{NO_ROOM, between, plus};
 use crate::pen::{Desk, Pen};
-use crate::{fates, files, help, make, pen, refusals, rooms, rows, saved, words};
+use crate::{fates, files, help, make, parts, pen, refusals, rooms, rows, saved, words};
+use std::fs::File;
+use std::rt::Files;
 
 // What was said and written so far: how many bytes of the new table and of the new data, and how many columns lost something.
 #[derive(Clone, Copy)]
-struct Sofar {
-    pen: Pen,
+struct Sofar<'p> {
+    pen: Pen<'p>,
     table: usize,
     data: usize,
     lost: usize,
 }
 
 // One column more: its bytes, its row, and what is said of it.
-fn save_column(
+fn save_column<'p>(
     block: &[u8],
     position: usize,
     table: &mut [u8],
     data: &mut [u8],
-    s: Sofar,
-) -> Sofar {
+    s: Sofar<'p>,
+) -> Sofar<'p> {
     let c = rows::piece_at(block, position);
     let part = between(block, c.start, c.end);
     let got = saved::save(c.spec, part, rows::is_whole(c), data, s.data);
@@ -36,7 +38,13 @@ fn save_column(
 }
 
 // All n columns, or those up to one for which there is no room.
-fn save_columns(block: &[u8], n: usize, table: &mut [u8], data: &mut [u8], begun: Sofar) -> Sofar {
+fn save_columns<'p>(
+    block: &[u8],
+    n: usize,
+    table: &mut [u8],
+    data: &mut [u8],
+    begun: Sofar<'p>,
+) -> Sofar<'p> {
     let mut s = begun;
     let mut i = 0;
     while i < n {
@@ -50,7 +58,7 @@ fn save_columns(block: &[u8], n: usize, table: &mut [u8], data: &mut [u8], begun
 }
 
 // The last words: the new file, and as a note that something is gone, of a column or behind the last one.
-fn say_done(path: &[u8], to: &[u8], s: Sofar, n: usize, whole: bool, desk: Desk) -> bool {
+fn say_done(path: &[u8], to: &[u8], s: Sofar<'_>, n: usize, whole: bool, desk: Desk) -> bool {
     let size = plus(s.table, s.data) as u64;
     let p = pen::form(
         pen::text(s.pen, to),
@@ -77,7 +85,15 @@ fn say_done(path: &[u8], to: &[u8], s: Sofar, n: usize, whole: bool, desk: Desk)
 }
 
 // A block whose rows are known, and fit the data where it is whole, saved in a new file.
-fn save_block(path: &[u8], block: &[u8], to: &[u8], over: bool, whole: bool, desk: Desk) -> bool {
+fn save_block(
+    rt: &impl Files<File = File>,
+    path: &[u8],
+    block: &[u8],
+    to: &[u8],
+    over: bool,
+    whole: bool,
+    desk: Desk,
+) -> bool {
     let n = rows::count(block);
     let mut table = [0u8; 1024];
     let mut data = rooms::block();
@@ -93,7 +109,7 @@ fn save_block(path: &[u8], block: &[u8], to: &[u8], over: bool, whole: bool, des
         return false;
     }
     let front = between(&table, 0, s.table);
-    if files::save_both(to, front, between(&data, 0, s.data), over, desk) {
+    if files::save_both(rt, to, front, between(&data, 0, s.data), over, desk) {
         return say_done(path, to, s, n, whole, desk);
     }
     false
@@ -117,7 +133,7 @@ fn say_table(path: &[u8], block: &[u8], number: u8, place: usize, desk: Desk) {
 }
 
 // Bytes behind the last column.
-fn say_behind(p: Pen, block: &[u8]) -> Pen {
+fn say_behind<'p>(p: Pen<'p>, block: &[u8]) -> Pen<'p> {
     let end = rows::piece_at(block, rows::count(block)).start;
     pen::form(
         p,
@@ -130,50 +146,57 @@ fn say_behind(p: Pen, block: &[u8]) -> Pen {
 }
 
 // A block that was read, saved as far as its table lets its columns be told apart. Bytes that are left out are a loss too.
-fn salvage(path: &[u8], block: &[u8], to: &[u8], over: bool, desk: Desk) -> bool {
+fn salvage(
+    rt: &impl Files<File = File>,
+    path: &[u8],
+    block: &[u8],
+    to: &[u8],
+    over: bool,
+    desk: Desk,
+) -> bool {
     let o = raw_column::read_table(block);
     if o.number == 0 {
-        return save_block(path, block, to, over, true, desk);
+        return save_block(rt, path, block, to, over, true, desk);
     }
     say_table(path, block, o.number, o.place, desk);
     if o.number == 14 || o.number == 15 {
-        save_block(path, block, to, over, false, desk);
+        save_block(rt, path, block, to, over, false, desk);
     }
     false
 }
 
 // FILE --to OUT.
-fn salvage_to(line: &[u8], over: bool, desk: Desk) -> bool {
+fn salvage_to(rt: &impl Files<File = File>, line: &[u8], over: bool, desk: Desk) -> bool {
     let mut block = rooms::block();
     let path = words::word(line, 1);
-    let n = files::read(path, &mut block, desk);
+    let n = files::read(rt, path, &mut block, desk);
     if n == files::FAILED {
         return false;
     }
     let to = words::word(line, 3);
-    if !files::is_free(to, over, desk) {
+    if !files::is_free(rt, to, over, desk) {
         return false;
     }
-    salvage(path, between(&block, 0, n), to, over, desk)
+    salvage(rt, path, between(&block, 0, n), to, over, desk)
 }
 
 fn wrong(desk: Desk) -> bool {
     help::wrong(b"salvage FILE --to OUT [--over]", desk)
 }
 
-pub fn run(line: &[u8], desk: Desk) -> bool {
+pub fn run(rt: &impl Files<File = File>, line: &[u8], desk: Desk) -> bool {
     let all = words::count(line);
-    if !check::same(words::word(line, 2), b"--to") {
+    if !parts::same(words::word(line, 2), b"--to") {
         return wrong(desk);
     }
     if all == 4 {
-        return salvage_to(line, false, desk);
+        return salvage_to(rt, line, false, desk);
     }
     if all != 5 {
         return wrong(desk);
     }
-    if check::same(words::word(line, 4), b"--over") {
-        return salvage_to(line, true, desk);
+    if parts::same(words::word(line, 4), b"--over") {
+        return salvage_to(rt, line, true, desk);
     }
     wrong(desk)
 }

@@ -2,6 +2,8 @@
 use crate::parts::{after, between, byte_at, find};
 use crate::pen::Desk;
 use crate::{commands, files, help, pen, rooms, words};
+use std::fs::File;
+use std::rt::Files;
 
 // How many commands there were, and how many went wrong.
 #[derive(Clone, Copy)]
@@ -66,12 +68,12 @@ fn is_word_end(out: &[u8], n: usize) -> bool {
     out[n - 1] == 0
 }
 
-fn run_line(line: &[u8], desk: Desk) -> bool {
+fn run_line(rt: &impl Files<File = File>, line: &[u8], desk: Desk) -> bool {
     let mut room = rooms::block();
     let n = split(line, &mut room);
     let p = pen::text(pen::text(pen::on(desk.out), b"> tablet "), line);
     pen::text(p, b"\n");
-    commands::run(between(&room, 0, n), desk)
+    commands::run(rt, between(&room, 0, n), desk)
 }
 
 fn is_remark(line: &[u8]) -> bool {
@@ -82,11 +84,11 @@ fn is_remark(line: &[u8]) -> bool {
     }
 }
 
-fn counted(t: Tally, line: &[u8], desk: Desk) -> Tally {
+fn counted(rt: &impl Files<File = File>, t: Tally, line: &[u8], desk: Desk) -> Tally {
     if is_remark(line) {
         return t;
     }
-    if run_line(line, desk) {
+    if run_line(rt, line, desk) {
         return Tally {
             run: after(t.run),
             wrong: t.wrong,
@@ -98,7 +100,7 @@ fn counted(t: Tally, line: &[u8], desk: Desk) -> Tally {
     }
 }
 
-fn run_lines(s: &[u8], desk: Desk) -> Tally {
+fn run_lines(rt: &impl Files<File = File>, s: &[u8], desk: Desk) -> Tally {
     let mut t = Tally { run: 0, wrong: 0 };
     let mut at = 0;
     let mut turns = s.len();
@@ -107,19 +109,19 @@ fn run_lines(s: &[u8], desk: Desk) -> Tally {
             return t;
         }
         let end = find(s, at, b'\n');
-        t = counted(t, between(s, at, end), desk);
+        t = counted(rt, t, between(s, at, end), desk);
         at = after(end);
         turns -= 1;
     }
     t
 }
 
-fn judge(t: Tally) -> bool {
+fn judge(t: Tally, desk: Desk) -> bool {
     if t.wrong == 0 {
         return true;
     }
     pen::form(
-        pen::on(2),
+        pen::on(desk.notes),
         b"tablet: commands that were refused: % of %\n",
         t.wrong as u64,
         t.run as u64,
@@ -129,15 +131,18 @@ fn judge(t: Tally) -> bool {
     false
 }
 
-pub fn run(line: &[u8]) -> bool {
-    let desk = Desk { out: 1, notes: 2 };
+pub fn run(rt: &impl Files<File = File>, line: &[u8], desk: Desk) -> bool {
     if words::count(line) != 2 {
         return help::wrong(b"script FILE", desk);
     }
     let mut s = rooms::block();
-    let n = files::read(words::word(line, 1), &mut s, desk);
+    let n = files::read(rt, words::word(line, 1), &mut s, desk);
     if n == files::FAILED {
         return false;
     }
-    judge(run_lines(between(&s, 0, n), Desk { out: 1, notes: 1 }))
+    let page = Desk {
+        out: desk.out,
+        notes: desk.out,
+    };
+    judge(run_lines(rt, between(&s, 0, n), page), desk)
 }

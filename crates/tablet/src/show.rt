@@ -3,16 +3,18 @@ use crate::parts::{between, plus};
 use crate::pen::{Desk, Pen};
 use crate::{column, files, forms, help, kinds, pen, refusals, rooms, walk, words};
 use encoding::Answer;
+use std::fs::File;
+use std::rt::Files;
 
 // What is known while rows are written: the pen, and how many columns do not read.
 #[derive(Clone, Copy)]
-struct Shown {
-    pen: Pen,
+struct Shown<'p> {
+    pen: Pen<'p>,
     bad: usize,
 }
 
 // A row up to its readings.
-fn say_row(p: Pen, position: usize, spec: u32, len: usize) -> Pen {
+fn say_row(p: Pen<'_>, position: usize, spec: u32, len: usize) -> Pen<'_> {
     let q = pen::text(pen::padded_number(p, position as u64, 10), b"0x");
     let r = pen::blanks(
         pen::hex(q, spec as u64),
@@ -24,12 +26,12 @@ fn say_row(p: Pen, position: usize, spec: u32, len: usize) -> Pen {
 
 // How many hex digits a specification is shown with, at least 2.
 fn hex_digits(spec: u32) -> usize {
-    let mut room = [0u8; 16];
-    io::hex(spec as u64, 2, &mut room)
+    let digits = spec.checked_ilog2().unwrap_or(0) as usize / 4 + 1;
+    if digits < 2 { 2 } else { digits }
 }
 
 // A mark where a column is not in our form.
-fn say_form(p: Pen, part: &[u8], spec: u32) -> Pen {
+fn say_form<'p>(p: Pen<'p>, part: &[u8], spec: u32) -> Pen<'p> {
     if forms::is_other(part, spec) {
         return forms::say(pen::text(p, b"; "), part, kinds::of_spec(spec));
     }
@@ -37,7 +39,7 @@ fn say_form(p: Pen, part: &[u8], spec: u32) -> Pen {
 }
 
 // How many readings a column has, or the refusal in words.
-fn say_readings(p: Pen, part: &[u8], spec: u32) -> Shown {
+fn say_readings<'p>(p: Pen<'p>, part: &[u8], spec: u32) -> Shown<'p> {
     let kind = kinds::of_spec(spec);
     if !kinds::is_served(kind) {
         return Shown {
@@ -57,14 +59,14 @@ fn say_readings(p: Pen, part: &[u8], spec: u32) -> Shown {
     }
 }
 
-fn show_column(p: Pen, block: &[u8], position: usize) -> Shown {
+fn show_column<'p>(p: Pen<'p>, block: &[u8], position: usize) -> Shown<'p> {
     let c = column::locate(block, position);
     let part = between(block, c.start, c.end);
     let row = say_row(p, position, c.spec, part.len());
     say_readings(row, part, c.spec)
 }
 
-fn show_columns(p: Pen, block: &[u8], rows: usize) -> Shown {
+fn show_columns<'p>(p: Pen<'p>, block: &[u8], rows: usize) -> Shown<'p> {
     let mut q = p;
     let mut bad = 0;
     let mut i = 0;
@@ -79,7 +81,7 @@ fn show_columns(p: Pen, block: &[u8], rows: usize) -> Shown {
 }
 
 // A note where columns do not read.
-fn judge(path: &[u8], s: Shown, desk: Desk) -> bool {
+fn judge(path: &[u8], s: Shown<'_>, desk: Desk) -> bool {
     if s.bad == 0 {
         return pen::finish(s.pen, desk);
     }
@@ -101,18 +103,18 @@ fn show_block(path: &[u8], block: &[u8], desk: Desk) -> bool {
     judge(path, show_columns(head, block, t.rows), desk)
 }
 
-fn show_file(path: &[u8], desk: Desk) -> bool {
+fn show_file(rt: &impl Files<File = File>, path: &[u8], desk: Desk) -> bool {
     let mut block = rooms::block();
-    let n = files::read(path, &mut block, desk);
+    let n = files::read(rt, path, &mut block, desk);
     if n == files::FAILED {
         return false;
     }
     show_block(path, between(&block, 0, n), desk)
 }
 
-pub fn run(line: &[u8], desk: Desk) -> bool {
+pub fn run(rt: &impl Files<File = File>, line: &[u8], desk: Desk) -> bool {
     if words::count(line) != 2 {
         return help::wrong(b"show FILE", desk);
     }
-    show_file(words::word(line, 1), desk)
+    show_file(rt, words::word(line, 1), desk)
 }

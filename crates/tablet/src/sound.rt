@@ -3,16 +3,18 @@ use crate::parts::{after, between};
 use crate::pen::{Desk, Pen};
 use crate::{column, files, forms, help, kinds, pen, refusals, rooms, walk, words};
 use encoding::Answer;
+use std::fs::File;
+use std::rt::Files;
 
 // A line so far, and whether the file is sound so far.
 #[derive(Clone, Copy)]
-struct Line {
-    pen: Pen,
+struct Line<'p> {
+    pen: Pen<'p>,
     sound: bool,
 }
 
 // The pen behind the refusals that are there.
-fn parted(l: Line) -> Pen {
+fn parted(l: Line<'_>) -> Pen<'_> {
     let p = l.pen;
     if l.sound {
         return p;
@@ -21,7 +23,7 @@ fn parted(l: Line) -> Pen {
 }
 
 // A refusal in a line: of a column, with its position.
-fn with_refusal(l: Line, position: usize, number: u8, place: usize) -> Line {
+fn with_refusal(l: Line<'_>, position: usize, number: u8, place: usize) -> Line<'_> {
     let q = pen::form(parted(l), b"column %: ", position as u64, 0, 0, 0);
     Line {
         pen: refusals::say(q, number, place),
@@ -29,7 +31,7 @@ fn with_refusal(l: Line, position: usize, number: u8, place: usize) -> Line {
     }
 }
 
-fn judge_column(l: Line, block: &[u8], position: usize) -> Line {
+fn judge_column<'p>(l: Line<'p>, block: &[u8], position: usize) -> Line<'p> {
     let c = column::locate(block, position);
     let kind = kinds::of_spec(c.spec);
     if !kinds::is_served(kind) {
@@ -42,7 +44,7 @@ fn judge_column(l: Line, block: &[u8], position: usize) -> Line {
     }
 }
 
-fn judge_columns(p: Pen, block: &[u8], rows: usize) -> Line {
+fn judge_columns<'p>(p: Pen<'p>, block: &[u8], rows: usize) -> Line<'p> {
     let mut l = Line {
         pen: p,
         sound: true,
@@ -56,7 +58,7 @@ fn judge_columns(p: Pen, block: &[u8], rows: usize) -> Line {
 }
 
 // A mark where a column is not in our form: it is no refusal.
-fn mark_column(p: Pen, block: &[u8], position: usize) -> Pen {
+fn mark_column<'p>(p: Pen<'p>, block: &[u8], position: usize) -> Pen<'p> {
     let c = column::locate(block, position);
     let part = between(block, c.start, c.end);
     if forms::is_other(part, c.spec) {
@@ -66,7 +68,7 @@ fn mark_column(p: Pen, block: &[u8], position: usize) -> Pen {
     p
 }
 
-fn mark_columns(p: Pen, block: &[u8], rows: usize) -> Pen {
+fn mark_columns<'p>(p: Pen<'p>, block: &[u8], rows: usize) -> Pen<'p> {
     let mut q = p;
     let mut i = 0;
     while i < rows {
@@ -76,7 +78,7 @@ fn mark_columns(p: Pen, block: &[u8], rows: usize) -> Pen {
     q
 }
 
-fn end_line(l: Line, block: &[u8], rows: usize) -> bool {
+fn end_line(l: Line<'_>, block: &[u8], rows: usize) -> bool {
     let p = l.pen;
     if l.sound {
         let q = pen::form(p, b"sound, columns: %", rows as u64, 0, 0, 0);
@@ -87,7 +89,7 @@ fn end_line(l: Line, block: &[u8], rows: usize) -> bool {
     false
 }
 
-fn judge_block(p: Pen, block: &[u8]) -> bool {
+fn judge_block(p: Pen<'_>, block: &[u8]) -> bool {
     let o = raw_column::read_table(block);
     if o.number != 0 {
         pen::text(refusals::say_of_table(p, o.number, o.place), b"\n");
@@ -97,9 +99,9 @@ fn judge_block(p: Pen, block: &[u8]) -> bool {
     end_line(judge_columns(p, block, t.rows), block, t.rows)
 }
 
-fn judge_file(path: &[u8], desk: Desk) -> bool {
+fn judge_file(rt: &impl Files<File = File>, path: &[u8], desk: Desk) -> bool {
     let mut block = rooms::block();
-    let n = files::read(path, &mut block, desk);
+    let n = files::read(rt, path, &mut block, desk);
     if n == files::FAILED {
         return false;
     }
@@ -107,11 +109,11 @@ fn judge_file(path: &[u8], desk: Desk) -> bool {
     judge_block(p, between(&block, 0, n))
 }
 
-fn judge_files(line: &[u8], all: usize, desk: Desk) -> usize {
+fn judge_files(rt: &impl Files<File = File>, line: &[u8], all: usize, desk: Desk) -> usize {
     let mut bad = 0;
     let mut i = 1;
     while i < all {
-        if !judge_file(words::word(line, i), desk) {
+        if !judge_file(rt, words::word(line, i), desk) {
             bad = after(bad);
         }
         i += 1;
@@ -119,12 +121,12 @@ fn judge_files(line: &[u8], all: usize, desk: Desk) -> usize {
     bad
 }
 
-pub fn run(line: &[u8], desk: Desk) -> bool {
+pub fn run(rt: &impl Files<File = File>, line: &[u8], desk: Desk) -> bool {
     let all = words::count(line);
     if all < 2 {
         return help::wrong(b"check FILE..", desk);
     }
-    let bad = judge_files(line, all, desk);
+    let bad = judge_files(rt, line, all, desk);
     if bad == 0 {
         return true;
     }

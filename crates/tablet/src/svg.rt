@@ -42,7 +42,7 @@ fn down(value: u64, base: u64, unit: u64) -> u64 {
 }
 
 // Text between tags.
-fn escaped(p: Pen, t: &[u8]) -> Pen {
+fn escaped<'p>(p: Pen<'p>, t: &[u8]) -> Pen<'p> {
     let mut q = p;
     let mut i = 0;
     while i < t.len() {
@@ -52,7 +52,7 @@ fn escaped(p: Pen, t: &[u8]) -> Pen {
     q
 }
 
-fn escaped_byte(p: Pen, t: &[u8], i: usize) -> Pen {
+fn escaped_byte<'p>(p: Pen<'p>, t: &[u8], i: usize) -> Pen<'p> {
     match byte_at(t, i) {
         38 => pen::text(p, b"&amp;"),
         60 => pen::text(p, b"&lt;"),
@@ -62,14 +62,14 @@ fn escaped_byte(p: Pen, t: &[u8], i: usize) -> Pen {
 }
 
 // No byte below a blank stands in a file of this kind.
-fn one_byte(p: Pen, b: u8) -> Pen {
+fn one_byte(p: Pen<'_>, b: u8) -> Pen<'_> {
     if b < 32 {
         return pen::text(p, b"?");
     }
     pen::text(p, &[b])
 }
 
-fn head(p: Pen) -> Pen {
+fn head(p: Pen<'_>) -> Pen<'_> {
     let q = pen::text(
         p,
         b"<svg xmlns=\"http://www.w3.org/2000/svg\" viewBox=\"0 0 800 430\" width=\"800\" height=\"430\" font-family=\"sans-serif\" font-size=\"13\">
@@ -91,7 +91,7 @@ fn head(p: Pen) -> Pen {
 }
 
 // The title: the file's name is escaped, the rest needs none.
-fn title(p: Pen, path: &[u8], s: Subject) -> Pen {
+fn title<'p>(p: Pen<'p>, path: &[u8], s: Subject) -> Pen<'p> {
     let q = escaped(pen::text(p, b"<title>"), path);
     let r = pen::text(
         q,
@@ -100,13 +100,13 @@ fn title(p: Pen, path: &[u8], s: Subject) -> Pen {
     pen::text(draw::say_subject(escaped(r, path), b"", s), b"</text>\n")
 }
 
-fn facts(p: Pen, broken: bool, kind: Kind, all: Stretch) -> Pen {
+fn facts(p: Pen<'_>, broken: bool, kind: Kind, all: Stretch) -> Pen<'_> {
     let q = pen::text(p, b"<text class=\"faint\" x=\"90\" y=\"49\">");
     pen::text(draw::say_facts(q, broken, kind, all), b"</text>\n")
 }
 
 // A part of a place, by its class, in units.
-fn part(p: Pen, class: &[u8], x: u64, y: u64, tall: u64) -> Pen {
+fn part<'p>(p: Pen<'p>, class: &[u8], x: u64, y: u64, tall: u64) -> Pen<'p> {
     pen::form(
         pen::text(pen::text(p, b"<rect class=\""), class),
         b"\" x=\"%\" y=\"%\" width=\"1\" height=\"%\"/>\n",
@@ -117,7 +117,7 @@ fn part(p: Pen, class: &[u8], x: u64, y: u64, tall: u64) -> Pen {
     )
 }
 
-fn trace(p: Pen, gone: usize, x: u64, y: u64, tall: u64) -> Pen {
+fn trace(p: Pen<'_>, gone: usize, x: u64, y: u64, tall: u64) -> Pen<'_> {
     if gone == 0 {
         return part(p, b"trace", x, y, tall);
     }
@@ -125,7 +125,7 @@ fn trace(p: Pen, gone: usize, x: u64, y: u64, tall: u64) -> Pen {
 }
 
 // One place across: its trace, and the clay below.
-fn place(p: Pen, base: u64, h: Height, x: u64, s: Stretch) -> Pen {
+fn place(p: Pen<'_>, base: u64, h: Height, x: u64, s: Stretch) -> Pen<'_> {
     if s.here == 0 {
         return p;
     }
@@ -136,14 +136,14 @@ fn place(p: Pen, base: u64, h: Height, x: u64, s: Stretch) -> Pen {
 }
 
 // A yes or no has no clay.
-fn place_of(p: Pen, kind: Kind, base: u64, h: Height, x: u64, s: Stretch) -> Pen {
+fn place_of(p: Pen<'_>, kind: Kind, base: u64, h: Height, x: u64, s: Stretch) -> Pen<'_> {
     if kinds::is_yes_no(kind) {
         return trace(p, 0, x, s.low, plus(picture::apart(s.low, s.high), 1));
     }
     place(p, base, h, x, s)
 }
 
-fn all_places(p: Pen, kind: Kind, c: Scale, h: Height, stretches: [Stretch; 680]) -> Pen {
+fn all_places(p: Pen<'_>, kind: Kind, c: Scale, h: Height, stretches: [Stretch; 680]) -> Pen<'_> {
     let mut q = p;
     let mut x = 0;
     while x < c.places {
@@ -155,7 +155,7 @@ fn all_places(p: Pen, kind: Kind, c: Scale, h: Height, stretches: [Stretch; 680]
 }
 
 // The drawing of the readings, stretched over the page.
-fn drawing(p: Pen, kind: Kind, c: Scale, h: Height, stretches: [Stretch; 680]) -> Pen {
+fn drawing(p: Pen<'_>, kind: Kind, c: Scale, h: Height, stretches: [Stretch; 680]) -> Pen<'_> {
     let q = pen::form(
         p,
         b"<svg x=\"90\" y=\"70\" width=\"680\" height=\"280\" preserveAspectRatio=\"none\" shape-rendering=\"crispEdges\" viewBox=\"0 0 % %\">\n",
@@ -183,7 +183,7 @@ fn page_y(depth: u64, base: u64, h: Height) -> u64 {
 }
 
 // A line across the page at a depth, with the depth beside it.
-fn level(p: Pen, kind: Kind, depth: u64, y: u64) -> Pen {
+fn level(p: Pen<'_>, kind: Kind, depth: u64, y: u64) -> Pen<'_> {
     let q = pen::form(
         p,
         b"<line class=\"grid\" x1=\"84\" x2=\"770\" y1=\"%\" y2=\"%\"/>\n<text class=\"faint\" x=\"78\" text-anchor=\"end\" dy=\"4\" y=\"%\">",
@@ -195,7 +195,7 @@ fn level(p: Pen, kind: Kind, depth: u64, y: u64) -> Pen {
     pen::text(numbers::say(q, kind, depth), b"</text>\n")
 }
 
-fn levels(p: Pen, kind: Kind, c: Scale, h: Height) -> Pen {
+fn levels(p: Pen<'_>, kind: Kind, c: Scale, h: Height) -> Pen<'_> {
     let mut q = p;
     let mut r = 0;
     while r < c.rows {
@@ -207,7 +207,7 @@ fn levels(p: Pen, kind: Kind, c: Scale, h: Height) -> Pen {
 }
 
 // A mark below the drawing where readings are absent.
-fn gap(p: Pen, x: u64, s: Stretch) -> Pen {
+fn gap(p: Pen<'_>, x: u64, s: Stretch) -> Pen<'_> {
     if s.gone == 0 {
         return p;
     }
@@ -217,7 +217,7 @@ fn gap(p: Pen, x: u64, s: Stretch) -> Pen {
     part(p, b"part", x, 0, 1)
 }
 
-fn gaps(p: Pen, c: Scale, stretches: [Stretch; 680]) -> Pen {
+fn gaps(p: Pen<'_>, c: Scale, stretches: [Stretch; 680]) -> Pen<'_> {
     let mut q = pen::form(
         p,
         b"<svg x=\"90\" y=\"352\" width=\"680\" height=\"6\" preserveAspectRatio=\"none\" shape-rendering=\"crispEdges\" viewBox=\"0 0 % 1\">\n",
@@ -235,7 +235,7 @@ fn gaps(p: Pen, c: Scale, stretches: [Stretch; 680]) -> Pen {
 }
 
 // The axes and what they stand for.
-fn axes(p: Pen, kind: Kind, per: usize, n: usize) -> Pen {
+fn axes(p: Pen<'_>, kind: Kind, per: usize, n: usize) -> Pen<'_> {
     let q = pen::form(
         p,
         b"<path class=\"axis\" d=\"M90 70V350H770\"/>\n<text class=\"faint\" x=\"90\" y=\"374\">0</text>\n<text class=\"faint\" x=\"770\" y=\"374\" text-anchor=\"end\">%</text>\n<text class=\"faint\" x=\"430\" y=\"374\" text-anchor=\"middle\">index of the reading, % to a place across</text>\n",
@@ -253,7 +253,7 @@ fn axes(p: Pen, kind: Kind, per: usize, n: usize) -> Pen {
     )
 }
 
-fn legend(p: Pen, gone: usize) -> Pen {
+fn legend(p: Pen<'_>, gone: usize) -> Pen<'_> {
     if gone == 0 {
         return p;
     }
@@ -270,7 +270,7 @@ fn lowest(kind: Kind, high: u64) -> u64 {
     if kinds::is_yes_no(kind) { 1 } else { high }
 }
 
-fn picture_of(p: Pen, part: &[u8], kind: Kind, n: usize, all: Stretch) -> Pen {
+fn picture_of<'p>(p: Pen<'p>, part: &[u8], kind: Kind, n: usize, all: Stretch) -> Pen<'p> {
     let c = draw::scale_for(all, kind, n, places::MOST);
     let stretches = places::of_scale(part, kind, c);
     let h = height_for(c.base, lowest(kind, all.high), kind);
@@ -280,7 +280,7 @@ fn picture_of(p: Pen, part: &[u8], kind: Kind, n: usize, all: Stretch) -> Pen {
 }
 
 // A crack from top to bottom behind the last reading, and its line of the legend.
-fn crack(p: Pen, s: Subject) -> Pen {
+fn crack(p: Pen<'_>, s: Subject) -> Pen<'_> {
     if !draw::is_broken(s) {
         return p;
     }
@@ -292,7 +292,7 @@ fn crack(p: Pen, s: Subject) -> Pen {
     pen::text(draw::say_break(q, s), b"</text>\n")
 }
 
-fn drawn(p: Pen, part: &[u8], kind: Kind, n: usize, all: Stretch) -> Pen {
+fn drawn<'p>(p: Pen<'p>, part: &[u8], kind: Kind, n: usize, all: Stretch) -> Pen<'p> {
     if all.here == 0 {
         return pen::text(
             p,
@@ -303,14 +303,21 @@ fn drawn(p: Pen, part: &[u8], kind: Kind, n: usize, all: Stretch) -> Pen {
 }
 
 // The n readings of a column, or those before its break, of which `all` is known.
-pub fn picture(p: Pen, path: &[u8], s: Subject, part: &[u8], n: usize, all: Stretch) -> Pen {
+pub fn picture<'p>(
+    p: Pen<'p>,
+    path: &[u8],
+    s: Subject,
+    part: &[u8],
+    n: usize,
+    all: Stretch,
+) -> Pen<'p> {
     let kind = kinds::of_spec(s.spec);
     let q = facts(title(head(p), path, s), draw::is_broken(s), kind, all);
     pen::text(crack(drawn(q, part, kind, n, all), s), b"</svg>\n")
 }
 
 // A break alone: no clay, and no reading.
-pub fn fracture(p: Pen, path: &[u8], s: Subject) -> Pen {
+pub fn fracture<'p>(p: Pen<'p>, path: &[u8], s: Subject) -> Pen<'p> {
     let q = pen::text(
         title(head(p), path, s),
         b"<path class=\"crack\" d=\"M90 190l40 50 40-50 40 50 40-50 40 50 40-50 40 50 40-50 40 50 40-50 40 50 40-50 40 50 40-50 40 50 40-50 40 50\"/>\n<text class=\"ink\" x=\"90\" y=\"150\" font-size=\"16\">Broken: ",

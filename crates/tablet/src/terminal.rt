@@ -20,7 +20,7 @@ fn cell(places: usize) -> usize {
 }
 
 // A shade, so many characters of three bytes each wide; 4 is the ruler.
-fn sign(p: Pen, shade: usize, n: usize) -> Pen {
+fn sign(p: Pen<'_>, shade: usize, n: usize) -> Pen<'_> {
     if shade == 0 {
         return pen::blanks(p, n);
     }
@@ -46,7 +46,7 @@ fn clay(kind: Kind, shade: usize) -> usize {
     shade
 }
 
-fn row(p: Pen, kind: Kind, c: Scale, row: usize, stretches: [Stretch; 680]) -> Pen {
+fn row(p: Pen<'_>, kind: Kind, c: Scale, row: usize, stretches: [Stretch; 680]) -> Pen<'_> {
     let n = cell(c.places);
     let mut q = p;
     let mut x = 0;
@@ -59,7 +59,7 @@ fn row(p: Pen, kind: Kind, c: Scale, row: usize, stretches: [Stretch; 680]) -> P
 }
 
 // The end of a row: a crack from top to bottom where the column breaks behind the last reading.
-fn end_row(p: Pen, broken: bool, row: usize) -> Pen {
+fn end_row(p: Pen<'_>, broken: bool, row: usize) -> Pen<'_> {
     if !broken {
         return pen::text(p, b"\n");
     }
@@ -69,20 +69,20 @@ fn end_row(p: Pen, broken: bool, row: usize) -> Pen {
     pen::text(p, b"\xe2\x95\xb1\n")
 }
 
-fn label(p: Pen, kind: Kind, c: Scale, row: usize, width: usize) -> Pen {
+fn label(p: Pen<'_>, kind: Kind, c: Scale, row: usize, width: usize) -> Pen<'_> {
     let depth = picture::depth_of(row, c.base, c.step);
     let q = pen::blanks(p, pen::short_of(numbers::width(kind, depth), width));
     pen::text(numbers::say(q, kind, depth), b" |")
 }
 
 fn rows(
-    p: Pen,
+    p: Pen<'_>,
     broken: bool,
     kind: Kind,
     c: Scale,
     width: usize,
     stretches: [Stretch; 680],
-) -> Pen {
+) -> Pen<'_> {
     let mut q = p;
     let mut r = 0;
     while r < c.rows {
@@ -98,7 +98,7 @@ fn tick(count: usize) -> usize {
 }
 
 // The ruler below has a gap where every reading of a place is absent.
-fn ruler(p: Pen, c: Scale, stretches: [Stretch; 680]) -> Pen {
+fn ruler(p: Pen<'_>, c: Scale, stretches: [Stretch; 680]) -> Pen<'_> {
     let n = cell(c.places);
     let mut q = pen::text(p, b" +");
     let mut x = 0;
@@ -110,7 +110,7 @@ fn ruler(p: Pen, c: Scale, stretches: [Stretch; 680]) -> Pen {
     q
 }
 
-fn end_ruler(p: Pen, broken: bool) -> Pen {
+fn end_ruler(p: Pen<'_>, broken: bool) -> Pen<'_> {
     if broken {
         return pen::text(p, b"\xe2\x95\xb3\n");
     }
@@ -129,7 +129,7 @@ fn across(places: usize) -> usize {
 }
 
 // The first and the last index, below the ends of the ruler.
-fn indices(p: Pen, c: Scale, n: usize) -> Pen {
+fn indices(p: Pen<'_>, c: Scale, n: usize) -> Pen<'_> {
     let q = pen::text(p, b"  0");
     if n < 2 {
         return pen::text(q, b"\n");
@@ -141,19 +141,19 @@ fn indices(p: Pen, c: Scale, n: usize) -> Pen {
 }
 
 // What a place and a row stand for, and the gaps where there are any.
-fn legend(p: Pen, kind: Kind, c: Scale, gone: usize) -> Pen {
+fn legend(p: Pen<'_>, kind: Kind, c: Scale, gone: usize) -> Pen<'_> {
     let q = pen::form(p, b"across: the index, % to a place", c.per as u64, 0, 0, 0);
     say_gaps(say_step(q, kind, c.step), c.per, gone)
 }
 
-fn say_step(p: Pen, kind: Kind, step: u64) -> Pen {
+fn say_step(p: Pen<'_>, kind: Kind, step: u64) -> Pen<'_> {
     if kinds::is_yes_no(kind) {
         return p;
     }
     pen::form(p, b"; down: the depth, % \xc2\xb5m to a row", step, 0, 0, 0)
 }
 
-fn say_gaps(p: Pen, per: usize, gone: usize) -> Pen {
+fn say_gaps(p: Pen<'_>, per: usize, gone: usize) -> Pen<'_> {
     if gone == 0 {
         return pen::text(p, b"\n");
     }
@@ -173,7 +173,14 @@ fn label_width(kind: Kind, base: u64, high: u64) -> usize {
     if first < last { last } else { first }
 }
 
-fn picture_of(p: Pen, broken: bool, part: &[u8], kind: Kind, n: usize, all: Stretch) -> Pen {
+fn picture_of<'p>(
+    p: Pen<'p>,
+    broken: bool,
+    part: &[u8],
+    kind: Kind,
+    n: usize,
+    all: Stretch,
+) -> Pen<'p> {
     let c = draw::scale_for(all, kind, n, WIDTH);
     let stretches = places::of_scale(part, kind, c);
     let width = label_width(kind, c.base, all.high);
@@ -184,7 +191,7 @@ fn picture_of(p: Pen, broken: bool, part: &[u8], kind: Kind, n: usize, all: Stre
 }
 
 // The crack's line of the legend.
-fn say_crack(p: Pen, s: Subject) -> Pen {
+fn say_crack(p: Pen<'_>, s: Subject) -> Pen<'_> {
     if !draw::is_broken(s) {
         return p;
     }
@@ -193,7 +200,14 @@ fn say_crack(p: Pen, s: Subject) -> Pen {
 }
 
 // The n readings of a column, or those before its break, of which `all` is known.
-pub fn picture(p: Pen, path: &[u8], s: Subject, part: &[u8], n: usize, all: Stretch) -> Pen {
+pub fn picture<'p>(
+    p: Pen<'p>,
+    path: &[u8],
+    s: Subject,
+    part: &[u8],
+    n: usize,
+    all: Stretch,
+) -> Pen<'p> {
     let kind = kinds::of_spec(s.spec);
     let broken = draw::is_broken(s);
     let q = pen::text(draw::say_subject(p, path, s), b"\n");
@@ -208,7 +222,7 @@ pub fn picture(p: Pen, path: &[u8], s: Subject, part: &[u8], n: usize, all: Stre
 }
 
 // A break alone: no clay, and no reading.
-pub fn fracture(p: Pen, path: &[u8], s: Subject) -> Pen {
+pub fn fracture<'p>(p: Pen<'p>, path: &[u8], s: Subject) -> Pen<'p> {
     let q = pen::text(
         draw::say_subject(p, path, s),
         b"\n\n  /\\/\\/\\/\\/\\/\\/\\/\\/\\/\\/\\/\\/\\/\\/\\/\\/\\/\\/\\/\\\n  BROKEN: ",

@@ -4,16 +4,18 @@ use crate::parts::{after, between};
 use crate::pen::{Desk, Pen};
 use crate::{around, because, column, cut, files, help, kinds, pen, refusals, rooms, words};
 use reason::{Reason, Told};
+use std::fs::File;
+use std::rt::Files;
 use table_reason::{TableReason, TableTold};
 
 // What is known while columns are looked at: the pen, and how many have a fault.
 #[derive(Clone, Copy)]
-struct Asked {
-    pen: Pen,
+struct Asked<'p> {
+    pen: Pen<'p>,
     bad: usize,
 }
 
-fn say_column(p: Pen, position: usize, spec: u32) -> Pen {
+fn say_column(p: Pen<'_>, position: usize, spec: u32) -> Pen<'_> {
     let q = pen::form(p, b"column % (", position as u64, 0, 0, 0);
     pen::form(
         kinds::say(q, spec, 0),
@@ -26,19 +28,19 @@ fn say_column(p: Pen, position: usize, spec: u32) -> Pen {
 }
 
 // The run at fault, the facts, and the bytes.
-fn say_run(p: Pen, part: &[u8], r: Reason) -> Pen {
+fn say_run<'p>(p: Pen<'p>, part: &[u8], r: Reason) -> Pen<'p> {
     around::say(because::say(p, r), part, r.place)
 }
 
 // The reason of a column's fault.
-fn say_reason(p: Pen, part: &[u8], r: Reason) -> Pen {
+fn say_reason<'p>(p: Pen<'p>, part: &[u8], r: Reason) -> Pen<'p> {
     let name = because::is_name(r);
     let number = refusals::cut_name(r.number, name);
     say_run(pen::text(refusals::say(p, number, r.place), b"\n"), part, r)
 }
 
 // Of a block whose file ends too early, the column in which it ends.
-fn say_cut(p: Pen, block: &[u8]) -> Pen {
+fn say_cut<'p>(p: Pen<'p>, block: &[u8]) -> Pen<'p> {
     let c = cut::broken(block);
     let part = between(block, c.start, c.end);
     let q = cut::explain(p, block);
@@ -50,7 +52,7 @@ fn say_cut(p: Pen, block: &[u8]) -> Pen {
 }
 
 // A column by its specification and its bytes.
-fn ask_column(a: Asked, part: &[u8], spec: u32, position: usize) -> Asked {
+fn ask_column<'p>(a: Asked<'p>, part: &[u8], spec: u32, position: usize) -> Asked<'p> {
     let q = a.pen;
     match column_reason::column_reason(kinds::number(spec), part) {
         Told::Because(r) => Asked {
@@ -62,12 +64,12 @@ fn ask_column(a: Asked, part: &[u8], spec: u32, position: usize) -> Asked {
     }
 }
 
-fn ask_at(a: Asked, block: &[u8], position: usize) -> Asked {
+fn ask_at<'p>(a: Asked<'p>, block: &[u8], position: usize) -> Asked<'p> {
     let c = column::locate(block, position);
     ask_column(a, between(block, c.start, c.end), c.spec, position)
 }
 
-fn ask_columns(p: Pen, block: &[u8], rows: usize) -> Asked {
+fn ask_columns<'p>(p: Pen<'p>, block: &[u8], rows: usize) -> Asked<'p> {
     let mut a = Asked { pen: p, bad: 0 };
     let mut i = 0;
     while i < rows {
@@ -78,7 +80,7 @@ fn ask_columns(p: Pen, block: &[u8], rows: usize) -> Asked {
 }
 
 // Where no column that is read has a fault, that is said.
-fn judge(a: Asked, desk: Desk) -> bool {
+fn judge(a: Asked<'_>, desk: Desk) -> bool {
     let p = a.pen;
     if 0 < a.bad {
         return pen::finish(p, desk);
@@ -118,9 +120,9 @@ fn ask_block(block: &[u8], desk: Desk) -> bool {
     }
 }
 
-fn ask_file(path: &[u8], desk: Desk) -> bool {
+fn ask_file(rt: &impl Files<File = File>, path: &[u8], desk: Desk) -> bool {
     let mut block = rooms::block();
-    let n = files::read(path, &mut block, desk);
+    let n = files::read(rt, path, &mut block, desk);
     if n == files::FAILED {
         return false;
     }
@@ -146,9 +148,9 @@ fn ask_one(block: &[u8], c: Column, desk: Desk) -> bool {
     pen::finish(pen::text(q, b"nothing is wrong: it reads\n"), desk)
 }
 
-fn ask_position(path: &[u8], position: usize, desk: Desk) -> bool {
+fn ask_position(rt: &impl Files<File = File>, path: &[u8], position: usize, desk: Desk) -> bool {
     let mut block = rooms::block();
-    let n = files::read(path, &mut block, desk);
+    let n = files::read(rt, path, &mut block, desk);
     if n == files::FAILED {
         return false;
     }
@@ -164,10 +166,10 @@ fn ask_position(path: &[u8], position: usize, desk: Desk) -> bool {
     ask_one(bytes, c, desk)
 }
 
-pub fn run(line: &[u8], desk: Desk) -> bool {
+pub fn run(rt: &impl Files<File = File>, line: &[u8], desk: Desk) -> bool {
     let n = words::count(line);
     if n == 2 {
-        return ask_file(words::word(line, 1), desk);
+        return ask_file(rt, words::word(line, 1), desk);
     }
     if n != 3 {
         return help::wrong(b"why FILE [COLUMN]", desk);
@@ -176,5 +178,5 @@ pub fn run(line: &[u8], desk: Desk) -> bool {
     if position == column::MISSING {
         return false;
     }
-    ask_position(words::word(line, 1), position, desk)
+    ask_position(rt, words::word(line, 1), position, desk)
 }

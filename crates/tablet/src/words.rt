@@ -1,5 +1,7 @@
 // The words of a command, each with a 0 byte behind it.
+use crate::parts;
 use crate::parts::{NO_ROOM, after, begins, between, find};
+use std::env::{Env, FillError};
 
 // Where word k begins.
 pub fn start(words: &[u8], k: usize) -> usize {
@@ -36,7 +38,7 @@ pub fn index(list: &[u8], name: &[u8]) -> usize {
     let all = count(list);
     let mut i = 0;
     while i < all {
-        if check::same(word(list, i), name) {
+        if parts::same(word(list, i), name) {
             return i;
         }
         i += 1;
@@ -57,30 +59,35 @@ pub fn option(words: &[u8], k: usize) -> usize {
     all
 }
 
-// Argument i of the program behind the words so far; the place behind it, or NO_ROOM.
-fn add_argument(i: usize, line: &mut [u8], at: usize) -> usize {
-    if line.len() <= at {
-        return NO_ROOM;
+// Argument i of the program behind the words so far, where there is one; the place behind it, or NO_ROOM.
+fn add_argument(rt: &impl Env, i: usize, line: &mut [u8], at: usize) -> Option<usize> {
+    if line.len() < at {
+        return Some(NO_ROOM);
     }
-    let n = os::arg(i, &mut line[at..]);
-    if os::errno() != 0 {
-        return NO_ROOM;
+    match rt.arg(i, &mut line[at..]) {
+        Ok(n) => {
+            if line.len() - at <= n {
+                return Some(NO_ROOM);
+            }
+            line[at + n] = 0;
+            Some(at + n + 1)
+        }
+        Err(FillError::TooLong) => Some(NO_ROOM),
+        Err(FillError::NotPresent) => None,
     }
-    if line.len() - at <= n {
-        return NO_ROOM;
-    }
-    line[at + n] = 0;
-    at + n + 1
 }
 
 // The program's arguments as words; how many bytes they take, or NO_ROOM.
-pub fn arguments(line: &mut [u8]) -> usize {
-    let all = os::arg_count();
+pub fn arguments(rt: &impl Env, line: &mut [u8]) -> usize {
     let mut at = 0;
-    let mut i = 1;
-    while i < all {
-        at = add_argument(i, line, at);
-        i += 1;
+    for i in 1..usize::MAX {
+        let Some(next) = add_argument(rt, i, line, at) else {
+            return at;
+        };
+        if next == NO_ROOM {
+            return NO_ROOM;
+        }
+        at = next;
     }
     at
 }

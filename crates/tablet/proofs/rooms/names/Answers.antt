@@ -1,0 +1,7 @@
+-- `tablet::rooms::names` meets its contract: by the length of a repetition. Assumes nothing.
+use Rattle.std.proofs.Common.{sym, ℕ}
+use Rattle.std.proofs.lemmas.List.{length-replicate}
+use Rattle.tablet.proofs.rooms.names.Goals as goal
+
+pub returns : goal.returns
+returns c = sym (length-replicate {A = ℕ} 131072 0)
