@@ -1,5 +1,7 @@
 // The boundary for C and Rust: each public function of the library under a name of C's, its answer a struct by value, a slice a pointer
 // and a length. Thin: every function calls one of the library and passes its answer on. include/grundavok.h says the same in C.
+#![tactic(auto)]
+
 mod answers;
 mod columns;
 mod cursor_pieces;

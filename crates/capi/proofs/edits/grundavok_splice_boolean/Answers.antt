@@ -1,0 +1,5 @@
+-- `capi::edits::grundavok_splice_boolean` meets its contract: the answer and what is left behind are the library's. Assumes nothing.
+use Rattle.capi.proofs.edits.grundavok_splice_boolean.Goals as goal
+
+pub returns : goal.returns
+returns c = c.splice_boolean.ensures
