@@ -8,4 +8,4 @@ use Rattle.capi.proofs.numbers.grundavok_write_i64.Goals as goal
 pub returns : goal.returns
 returns c =
     let e = rw (to_z-of_z w64 c.args.x c.ranges.x) at c.write_i64.ensures in
-    record { value = c.written.ensures ∙ ap counted e.0; out_after = e.1 }
+    record { value = c.written.ensures ∙ ap counted e.result_value; out_after = e.out_after }

@@ -13,5 +13,5 @@ returns c =
     let f : SFits w64 z = search rules in
     let g : SFits w64 d = search rules in
     rw (to_z-of_z w64 z f, to_z-of_z w64 d g)
-    (run-told c.args.told c.Signed-of.result c.column_facts-f.result
-    c.Signed-of.ensures c.column_facts-f.ensures)
+    (run-told c.args.told c.signed_of-c.result c.column_facts-f.result
+    c.signed_of-c.ensures c.column_facts-f.ensures)
