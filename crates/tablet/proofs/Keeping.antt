@@ -2,7 +2,7 @@
 use mathlib.Core.Path.{◌≡◌, ◌∙◌, ap}
 use Prim.Native.Nat.{ℕ, suc, ◌+◌, ◌-◌, ◌^◌, ◌<◌}
 use native.Mathlib.Omega.{arith}
-use lib.IntN.{ℤ, pos, negsuc}
+use lib.IntN.{pos, negsuc}
 use Rattle.delta_decoder.specs.Sofar.{sum_of}
 use Rattle.delta_decoder.proofs.Kept.{sum_low, sum-high}
 use Rattle.tablet.specs.Kept.{kept_of}
