@@ -44,14 +44,18 @@ pub fn on(sheet: Sheet<'_>) -> Pen<'_> {
     Pen { sheet, error: None }
 }
 
+fn broken(p: Pen<'_>, error: io::Error) -> Pen<'_> {
+    Pen {
+        sheet: p.sheet,
+        error: Some(error.raw_os_error().unwrap_or(0)),
+    }
+}
+
 // The pen behind a text that came through, or did not.
 fn behind(p: Pen<'_>, wrote: io::Result<()>) -> Pen<'_> {
     match wrote {
         Ok(()) => p,
-        Err(e) => Pen {
-            sheet: p.sheet,
-            error: Some(e.raw_os_error().unwrap_or(0)),
-        },
+        Err(error) => broken(p, error),
     }
 }
 
