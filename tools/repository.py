@@ -27,7 +27,8 @@ def below(path):
 
 
 class Function(NamedTuple):
-    name: str  # with its type before it where it is a method: ColumnSpec::new
+    name: str  # with its type or trait before it where it is a method: ColumnSpec::new (of a trait's `impl`: see owner)
+    of_trait: bool  # a method of an `impl` of a trait, which the trait asks for
     visibility: str  # 'pub', 'pub(crate)' or ''
     exported: bool  # extern "C"
     line: int
@@ -39,7 +40,9 @@ class Function(NamedTuple):
 
 FUNCTION = re.compile(r'(?:\b(pub(?:\s*\([^)]*\))?)\s+)?(?:\b(extern\s+"C")\s+)?\bfn\s+(\w+)')
 QUIET = re.compile(r'//[^\n]*|b?"(?:\\.|[^"\\])*"|\bb\'(?:\\.[^\']*|[^\'\\])\'|(?<!\w)\'(?:\\.[^\']*|[^\'\\])\'', re.S)
-METHODS = re.compile(r'\bimpl\b(?:\s*<[^>]*>)?\s+(\w+)(?:<[^>]*>)?\s*{')
+METHODS = re.compile(r'\b(?:impl\b(?:\s*<[^>]*>)?\s+(?P<trait>[\w:]+(?:<[^{]*>)?\s+for\s+)?|trait\s+)(?P<type>\w+)[^{};]*{')
+# What stands between a function's name and its parameters: type parameters with bounds, `Fn(A) -> B` among them.
+PARAMETERS = re.compile(r'\s*(?:<(?:[^<>]|<[^<>]*>|->)*>)?\s*\(')
 # A clause of a contract before its brace: `ensures`, or with the clause's name where there are several.
 CLAUSE = re.compile(r'\b(?:requires|ensures)(?:\s*\*)?(?:\s+\w+)?\s*$')
 
@@ -60,19 +63,31 @@ def behind(code, opening):
     raise ValueError('a bracket that nothing closes')
 
 
+def owner(of):
+    """What a method is named by: its type or trait; in an `impl` of a trait, as the prover has it, the type and the words of the trait: U8FromWhy."""
+    words = re.findall(r'\w+', of['type'] + ' ' + (of['trait'] or '').rsplit(' for ', 1)[0].removesuffix('for').strip())
+    return ''.join(word[:1].upper() + word[1:] for word in words) if of['trait'] else of['type']
+
+
+def opening(code, at):
+    """The next brace, or the semicolon that ends a function without a body; the one in an array's type is none."""
+    return next(match.start() for match in re.compile(r'\[[^\]]*\]|[{;]').finditer(code, at) if match.group()[0] != '[')
+
+
 def functions_of(text):
     """The functions of a source, in its order."""
     code = code_of(text)
-    types = [(match.group(1), range(match.end(), behind(code, match.end() - 1))) for match in METHODS.finditer(code)]
+    types = [(match, range(match.end(), behind(code, match.end() - 1))) for match in METHODS.finditer(code)]
     found, at = [], 0
     while match := FUNCTION.search(code, at):
-        # Behind the parameters come the contract's clauses, each in braces, and then the body.
-        body = code.index('{', behind(code, code.index('(', match.end())))
-        while CLAUSE.search(code[match.end():body]):
-            body = code.index('{', behind(code, body))
-        at = behind(code, body)
-        name = '::'.join([name for name, inside in types if match.start() in inside] + [match.group(3)])
-        found.append(Function(name, re.sub(r'\s', '', match.group(1) or ''), bool(match.group(2)), text.count('\n', 0, match.start()) + 1,
+        # Behind the parameters come the contract's clauses, each in braces, and then the body, or in a trait mostly none.
+        body = opening(code, behind(code, PARAMETERS.match(code, match.end()).end() - 1))
+        while code[body] == '{' and CLAUSE.search(code[match.end():body]):
+            body = opening(code, behind(code, body))
+        at = behind(code, body) if code[body] == '{' else body + 1
+        within = [of for of, inside in types if match.start() in inside]
+        name = '::'.join([owner(of) for of in within] + [match.group(3)])
+        found.append(Function(name, any(of['trait'] for of in within), re.sub(r'\s', '', match.group(1) or ''), bool(match.group(2)), text.count('\n', 0, match.start()) + 1,
                               match.start(), at, code[match.start():body], code[body:at]))
     return found
 

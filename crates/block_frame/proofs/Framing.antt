@@ -11,8 +11,7 @@ use Rattle.raw_column.specs.Table.{tab, faulty, parse}
 use Rattle.block_frame.specs.Columns.{table_bytes}
 use Rattle.column_part.specs.Part.{start_of}
 use Rattle.block_frame.specs.Chosen.{Chosen}
-use Rattle.block_frame.specs.Frame.{shut, room, front_of, tail_of, framed, frame_of, frame_out}
-use Rattle.block_frame.specs.declared.Frame.{Frame}
+use Rattle.block_frame.specs.Frame.{shut, room, front_of, tail_of, framed, frame_of, frame_out, Frame}
 use Rattle.raw_column.specs.declared.Table.{Table}
 use Rattle.raw_column.proofs.Opening.{sum_to}
 use Rattle.block_frame.proofs.Tables.{table-fills}
@@ -89,13 +88,13 @@ abbrev pub behind : List ℕ → Table → ℕ → ℕ → List ℕ
 behind s table next position = take (length s - end_in table next position) (drop (end_in table next position) s)
 
 module _ {s : List ℕ} {table : Table} {next position : ℕ} (g : Chosen s table next position) where
-  abbrev S : List ℕ
+  abbrev pub S : List ℕ
   S = take table.rows table.specs
 
   abbrev L : List ℕ
   L = take table.rows table.lens
 
-  rows_are : length S ≡ table.rows
+  pub rows_are : length S ≡ table.rows
   rows_are = length-take-le table.rows table.specs (omega (arith, g.few, g.specs_long))
 
   row_ends : start_of L next position + get_or L position 0 ≤ length s

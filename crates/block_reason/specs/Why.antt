@@ -1,8 +1,7 @@
 -- 02, [3], as 02-readings has it: one call "over a block and a position, which passes on the first, 16, 17 or the second": the table's reason, or the column's.
 use Rattle.std.specs.Prelude.{ℕ, List, cond, eqb}
 use Rattle.std.proofs.Math.Option.{Option, none, some}
-use Rattle.column_part.specs.Part.{part_at, bytes_of}
-use Rattle.column_part.specs.declared.Part.{Part}
+use Rattle.column_part.specs.Part.{part_at, bytes_of, Part}
 use Rattle.column_specification.specs.Specification.{type_of}
 use Rattle.reason.specs.Columns.{Told, because, faultless, refused, column_reason}
 use Rattle.reason.specs.Reason.{Reason}

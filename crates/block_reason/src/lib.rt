@@ -10,26 +10,26 @@ ghost use Rattle.block_reason.specs.Why.{of_column, of_part, block_reason};
 use column_part::locate;
 use column_specification::ColumnSpec;
 use reason::{Reason, Told};
-use table_reason::{TableReason, TableTold};
+use refusal::Refusal;
+use table_reason::TableReason;
 
-// What a call over a block and a position answers: that nothing is wrong; the reason of the table's fault; the position of the column and the reason
-// of its fault; or a refusal of the call's own.
-#[derive(Clone, Copy)]
-pub enum Why {
-    Faultless,
+// What is at fault: the table; or the column at a position.
+#[derive(Clone, Copy, Debug, PartialEq, Eq)]
+pub enum Fault {
     Table(TableReason),
     Column(usize, Reason),
-    Refused(u8, usize),
 }
+
+// What a call over a block and a position answers: the reason of the fault, none where nothing is wrong; or a refusal of the call's own.
+pub type Why = Result<Option<Fault>, Refusal>;
 
 // What is told of the column at a position.
 fn of_column(position: usize, t: Told) -> Why
     ensures { why_of result ≡ of_column position (told_of t) }
 {
-    match t {
-        Told::Because(r) => Why::Column(position, r),
-        Told::Faultless => Why::Faultless,
-        Told::Refused(number, place) => Why::Refused(number, place),
+    match t? {
+        Some(reason) => Ok(Some(Fault::Column(position, reason))),
+        None => Ok(None),
     }
 }
 
@@ -37,14 +37,12 @@ fn of_column(position: usize, t: Told) -> Why
 fn of_part(block: &[u8], position: usize) -> Why
     ensures { why_of result ≡ of_part block.now position (part_at block.now position) }
 {
-    let p = locate(block, position);
-    if p.number != 0 {
-        return Why::Refused(p.number, p.place);
-    }
-    let a = p.start;
-    let e = a + p.len;
-    let typ = ColumnSpec(p.spec).col_type().as_u8();
-    of_column(position, column_reason::column_reason(typ, &block[a..e]))
+    let part = locate(block, position)?;
+    let typ = ColumnSpec(part.spec).col_type().as_u8();
+    of_column(
+        position,
+        column_reason::column_reason(typ, part.bytes(block)),
+    )
 }
 
 // Why the column at a position was refused.
@@ -52,7 +50,7 @@ pub fn block_reason(block: &[u8], position: usize) -> Why
     ensures { why_of result ≡ block_reason block.now position }
 {
     match table_reason::table_reason(block) {
-        TableTold::Because(r) => Why::Table(r),
-        TableTold::Faultless => of_part(block, position),
+        Some(reason) => Ok(Some(Fault::Table(reason))),
+        None => of_part(block, position),
     }
 }

@@ -15,11 +15,8 @@ use Rattle.cursor.proofs.Saying.{in_order, then-end, then-refused}
 use Rattle.cursor.proofs.Agreeing.{Agree, checked-agrees}
 use Rattle.boolean_decoder.specs.Turns.{bool_trace}
 use Rattle.boolean_cursor.specs.TurnCursor.{TurnCursor, turn_fresh, turn_step}
-use Rattle.boolean_cursor.specs.State.{cursor_of, kept, new_for, answer_for, told, step_of}
+use Rattle.boolean_cursor.specs.State.{BooleanAnswer, Present, End, Refused, Told, cursor_of, kept, new_for, answer_for, told, step_of}
 use Rattle.boolean_cursor.specs.declared.BooleanCursor.{BooleanCursor}
-use Rattle.boolean_cursor.specs.declared.BooleanStepped.{BooleanStepped}
-use Rattle.boolean_cursor.specs.declared.BooleanAnswer.{BooleanAnswer}
-use Rattle.boolean_cursor.specs.declared.BooleanAnswer.TheVariants as answer
 use Rattle.boolean_cursor.proofs.TurnCursors.{says-turns, turn-within, turn-agrees}
 
 module _ (s : List ℕ) where
@@ -39,21 +36,21 @@ module _ (s : List ℕ) where
   nth-answer n =
       answers (turn_step s) (λ c. c.at ≤ length s) (kept (length s)) (λ k. (step_of s k).cursor) (λ k. (step_of s k).answer) answer_for
       (turn-within s)
-      (λ c h. ap (λ (r : BooleanStepped). r.cursor) (step_kept c h))
-      (λ c h. ap (λ (r : BooleanStepped). r.answer) (step_kept c h))
+      (λ c h. ap (λ (r : Told). r.cursor) (step_kept c h))
+      (λ c h. ap (λ (r : Told). r.answer) (step_kept c h))
       n turn_fresh (omega arith)
       ∙ ap answer_for (says-turns s n)
 
   -- "the readings in order are the decoded list"; on a faulty column those before the first faulty one
-  pub answers-readings : (n : ℕ) → n < length (bool_trace s).readings → answer_at n ≡ answer.Present (get_or (bool_trace s).readings n 0)
+  pub answers-readings : (n : ℕ) → n < length (bool_trace s).readings → answer_at n ≡ Present (get_or (bool_trace s).readings n 0)
   answers-readings n l = in_order (bool_trace s) answer_for answer_at nth-answer n 0 l
 
   -- "and then the end, however often asked"
-  pub answers-end : (m n : ℕ) → outcome (bool_trace s) ≡ done m → m ≤ n → answer_at n ≡ answer.End
+  pub answers-end : (m n : ℕ) → outcome (bool_trace s) ≡ done m → m ≤ n → answer_at n ≡ End
   answers-end m n h l = then-end (bool_trace s) answer_for answer_at nth-answer m n h l
 
   -- "then the refusal of the whole-column call, again at every later call"
-  pub answers-refusal : (number place n : ℕ) → outcome (bool_trace s) ≡ refused number place → length (bool_trace s).readings ≤ n → answer_at n ≡ answer.Refused number place
+  pub answers-refusal : (number place n : ℕ) → outcome (bool_trace s) ≡ refused number place → length (bool_trace s).readings ≤ n → answer_at n ≡ Refused number place
   answers-refusal number place n h l = then-refused (bool_trace s) answer_for answer_at nth-answer number place n h l
 
 pub agrees : (s t : List ℕ) (k : BooleanCursor) → Agree s t k.at → step_of s k ≡ step_of t k

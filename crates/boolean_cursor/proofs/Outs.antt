@@ -8,27 +8,24 @@ use Rattle.cursor.specs.Steps.{said, drawn}
 use Rattle.cursor.specs.Kept.{leaves}
 use Rattle.cursor.proofs.Keeping.{checked-passes, checked-other, checked-beyond}
 use Rattle.boolean_cursor.specs.TurnCursor.{TurnCursor, turning, byte_of, one_turn, turn_ready, turn_step}
-use Rattle.boolean_cursor.specs.State.{cursor_of, kept, told, step_of}
+use Rattle.boolean_cursor.specs.State.{BooleanAnswer, Present, Refused, Told, cursor_of, kept, told, step_of}
 use Rattle.boolean_cursor.specs.declared.BooleanCursor.{BooleanCursor}
-use Rattle.boolean_cursor.specs.declared.BooleanStepped.{BooleanStepped}
-use Rattle.boolean_cursor.specs.declared.BooleanAnswer.{BooleanAnswer}
-use Rattle.boolean_cursor.specs.declared.BooleanAnswer.TheVariants as answer
 
 -- one that answers a, and leaves the state k
-abbrev out : BooleanCursor → BooleanAnswer → BooleanStepped
+abbrev out : BooleanCursor → BooleanAnswer → Told
 out k a = record { cursor = k; answer = a }
 
 pub one_out : (k c : BooleanCursor) {flag : ℕ} → flag ≡ byte_of c.flag
-    → out (kept k.len (turning c.at c.had (c.left - 1) c.flag)) (answer.Present flag) ≡ told k (one_turn (cursor_of c))
+    → out (kept k.len (turning c.at c.had (c.left - 1) c.flag)) (Present flag) ≡ told k (one_turn (cursor_of c))
 unfolding one_turn leaves said
-one_out k c e = ap (λ (flag : ℕ). out (kept k.len (turning c.at c.had (c.left - 1) c.flag)) (answer.Present flag)) e
+one_out k c e = ap (λ (flag : ℕ). out (kept k.len (turning c.at c.had (c.left - 1) c.flag)) (Present flag)) e
 
 module _ (s : List ℕ) (k : BooleanCursor) where
-  pub step_other : (k.len ≡ length s → ⊥) → step_of s k ≡ out k (answer.Refused 24 0)
+  pub step_other : (k.len ≡ length s → ⊥) → step_of s k ≡ out k (Refused 24 0)
   unfolding step_of leaves said
   step_other n = ap (told k) (checked-other k.len k.at s (turn_step s (cursor_of k)) n)
 
-  pub step-beyond : length s < k.at → step_of s k ≡ out k (answer.Refused 24 0)
+  pub step-beyond : length s < k.at → step_of s k ≡ out k (Refused 24 0)
   unfolding step_of leaves said
   step-beyond l = ap (told k) (checked-beyond k.len k.at s (turn_step s (cursor_of k)) l)
 

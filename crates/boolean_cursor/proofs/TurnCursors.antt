@@ -187,6 +187,11 @@ module _ (s : List ℕ) where
   unfolding turn_ready
   ready-left c l = ready-some entering c l
 
+  -- what is ready has a reading left
+  pub ready-left-some : (c d : TurnCursor) → turn_ready s c ≡ on d → 0 < d.left
+  unfolding turn_ready
+  ready-left-some c d e = (ready-has entering (λ x. Unit {0}) (λ x y p h. tt) c d tt e).1
+
   pub ready-into : (c : TurnCursor) (x : Next TurnCursor) → c.left ≡ 0 → enter_turn s c.at c.had c.flag ≡ x → turn_ready s c ≡ onto x (turn_ready s)
   unfolding turn_ready
   ready-into c x z e = ready-none entering c x z e

@@ -4,16 +4,16 @@
 
 ghost use Rattle.std.specs.Prelude.{◌≡◌, ◌-◌, ◌<◌, length};
 ghost use Rattle.leb128.specs.Got.{got};
-ghost use Rattle.boolean_cursor.specs.Cases.{next_of};
+ghost use Rattle.boolean_cursor.specs.Cases.{next_of, answer_of, stepped_of};
 ghost use Rattle.boolean_cursor.specs.State.{new_for, cursor_of, told, step_of};
-ghost use Rattle.boolean_cursor.specs.TurnCursor.{byte_of, counting, enter_turn, one_turn};
+ghost use Rattle.boolean_cursor.specs.TurnCursor.{byte_of, counting, enter_turn, turn_ready, one_turn};
 
 use encoding::LIMIT;
-use leb128::ParsedU64;
+use refusal::{Refusal, Why};
 
 // The state that the host keeps; any numbers are one.
 #[repr(C)]
-#[derive(Clone, Copy)]
+#[derive(Clone, Copy, Debug, PartialEq, Eq)]
 pub struct BooleanCursor {
     // The length of the column that it was made for.
     pub len: usize,
@@ -27,28 +27,18 @@ pub struct BooleanCursor {
     pub flag: u64,
 }
 
-// The next reading, a byte 0 or 1; the end of the column; or a refusal's number and place.
-#[derive(Clone, Copy)]
-pub enum BooleanAnswer {
-    Present(u8),
-    End,
-    Refused(u8, usize),
-}
+// The next reading, a byte 0 or 1; none at the end of the column; or a refusal.
+pub type BooleanAnswer = Result<Option<u8>, Refusal>;
 
 // The state behind a step, and what the step answers.
-#[derive(Clone, Copy)]
+#[derive(Clone, Copy, Debug, PartialEq, Eq)]
 pub struct BooleanStepped {
     pub cursor: BooleanCursor,
     pub answer: BooleanAnswer,
 }
 
-// A state that is reached; or the column is over, or has a fault, before it.
-#[derive(Clone, Copy)]
-enum Reached {
-    On(BooleanCursor),
-    Over,
-    Off(u8, usize),
-}
+// A state that is reached; none where the column is over before it; or the fault before it.
+type Reached = Result<Option<BooleanCursor>, Refusal>;
 
 // The state before the first reading of a column; its first count is of false, the other byte of 1.
 pub fn new(column: &[u8]) -> BooleanCursor
@@ -83,16 +73,16 @@ fn counted_at(len: usize, at: usize, had: u64, flag: u64, c: u64, next: usize) -
 {
     if had <= LIMIT {
         if c <= LIMIT - had {
-            return Reached::On(BooleanCursor {
+            return Ok(Some(BooleanCursor {
                 len: len,
                 at: next,
                 had: had + c,
                 left: c,
                 flag: other(flag),
-            });
+            }));
         }
     }
-    Reached::Off(5, at)
+    Err(Refusal(Why::TooMany, at))
 }
 
 // Into the count at `at`.
@@ -101,18 +91,34 @@ fn entered_at(column: &[u8], at: usize, had: u64, flag: u64) -> Reached
 {
     let len = column.len();
     if len <= at {
-        return Reached::Over;
+        return Ok(None);
     }
-    match leb128::leb128_u64(column, at) {
-        ParsedU64::Number(c, next) => counted_at(len, at, had, flag, c, next),
-        ParsedU64::Refused(n, place) => Reached::Off(n, place),
+    let (c, next) = leb128::leb128_u64(column, at)?;
+    counted_at(len, at, had, flag, c, next)
+}
+
+// The first state with a reading left: this one, or one in a later count. Those that add nothing are passed.
+fn ready_at(column: &[u8], cursor: BooleanCursor) -> Reached
+    ensures { next_of result ≡ turn_ready column.now (cursor_of cursor) }
+{
+    let mut c = cursor;
+    while c.left == 0 {
+        match entered_at(column, c.at, c.had, c.flag)? {
+            Some(d) => {
+                c = d;
+            }
+            None => {
+                return Ok(None);
+            }
+        }
     }
+    Ok(Some(c))
 }
 
 // One reading of the present count of c, in a call that was lent `lent`.
 fn one_of(lent: BooleanCursor, c: BooleanCursor) -> BooleanStepped
     requires { 0 < c.left }
-    ensures { result ≡ told lent (one_turn (cursor_of c)) }
+    ensures { stepped_of result ≡ told lent (one_turn (cursor_of c)) }
 {
     let flag = byte(c.flag);
     let d = BooleanCursor {
@@ -124,56 +130,42 @@ fn one_of(lent: BooleanCursor, c: BooleanCursor) -> BooleanStepped
     };
     BooleanStepped {
         cursor: d,
-        answer: BooleanAnswer::Present(flag),
+        answer: Ok(Some(flag)),
     }
 }
 
-// One step, from any state: the next reading, the end or a refusal, and the state behind it. Where nothing is left of the present run the next
-// one is entered, and those that add nothing are passed.
+// One step, from any state: the next reading, the end or a refusal, and the state behind it.
 pub fn step(column: &[u8], cursor: BooleanCursor) -> BooleanStepped
-    ensures { result ≡ step_of column.now cursor }
+    ensures { stepped_of result ≡ step_of column.now cursor }
 {
     if cursor.len != column.len() {
         return BooleanStepped {
             cursor: cursor,
-            answer: BooleanAnswer::Refused(24, 0),
+            answer: Err(Refusal(Why::BadCursor, 0)),
         };
     }
     if column.len() < cursor.at {
         return BooleanStepped {
             cursor: cursor,
-            answer: BooleanAnswer::Refused(24, 0),
+            answer: Err(Refusal(Why::BadCursor, 0)),
         };
     }
-    if 0 < cursor.left {
-        return one_of(cursor, cursor);
+    match ready_at(column, cursor) {
+        Ok(Some(c)) => one_of(cursor, c),
+        Ok(None) => BooleanStepped {
+            cursor: cursor,
+            answer: Ok(None),
+        },
+        Err(e) => BooleanStepped {
+            cursor: cursor,
+            answer: Err(e),
+        },
     }
-    let mut c = cursor;
-    while c.left == 0 {
-        match entered_at(column, c.at, c.had, c.flag) {
-            Reached::On(d) => {
-                c = d;
-            }
-            Reached::Over => {
-                return BooleanStepped {
-                    cursor: cursor,
-                    answer: BooleanAnswer::End,
-                };
-            }
-            Reached::Off(n, place) => {
-                return BooleanStepped {
-                    cursor: cursor,
-                    answer: BooleanAnswer::Refused(n, place),
-                };
-            }
-        }
-    }
-    one_of(cursor, c)
 }
 
 // The next reading, the end or a refusal; the state is advanced in place.
 pub fn next(column: &[u8], cursor: &mut BooleanCursor) -> BooleanAnswer
-    ensures { (result ≡ (step_of column.now cursor.old).answer)
+    ensures { (answer_of result ≡ (step_of column.now cursor.old).answer)
         × (cursor.new ≡ (step_of column.now cursor.old).cursor) }
 {
     let r = step(column, *cursor);

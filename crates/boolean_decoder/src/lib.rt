@@ -7,21 +7,17 @@ ghost use Rattle.std.proofs.lemmas.List.Edits.{sets};
 ghost use Rattle.leb128.specs.Got.{got};
 ghost use Rattle.encoding.specs.Cases.{answer_of};
 ghost use Rattle.encoding.specs.Limit.{limit};
-ghost use Rattle.encoding.specs.Survivors.{survey_of, surviving};
+ghost use Rattle.encoding.specs.Survivors.{survey_of, surviving, seen};
 ghost use Rattle.encoding.specs.Walk.{outcome};
 ghost use Rattle.boolean_decoder.specs.Cases.{step_of};
 ghost use Rattle.boolean_decoder.specs.Decoded.{Decoded};
 ghost use Rattle.boolean_decoder.specs.Turns.{turn, counted, turn_at, bool_trace};
 
 use encoding::{Answer, LIMIT, Survey};
-use leb128::ParsedU64;
+use refusal::{Refusal, Why};
 
 // Behind a count: the next position, how many readings came so far, and the byte that is counted next; or the count's fault.
-#[derive(Clone, Copy)]
-enum Step {
-    On(usize, u64, u8),
-    Off(u8, usize),
-}
+type Step = Result<(usize, u64, u8), Refusal>;
 
 // The count c of readings `flag`, which stands at `at`, before `next`; it is judged for the limit when read.
 fn counted_at(at: usize, had: u64, flag: u8, c: u64, next: usize) -> Step
@@ -31,9 +27,9 @@ fn counted_at(at: usize, had: u64, flag: u8, c: u64, next: usize) -> Step
     if c <= LIMIT - had {
         let n = had + c;
         let other = 1 - flag;
-        Step::On(next, n, other)
+        Ok((next, n, other))
     } else {
-        Step::Off(5, at)
+        Err(Refusal(Why::TooMany, at))
     }
 }
 
@@ -42,39 +38,35 @@ fn turn_at(s: &[u8], at: usize, had: u64, flag: u8) -> Step
     requires { (at < length s.now) × (had ≤ limit) × (flag ≤ 1) }
     ensures { step_of result ≡ (turn_at s.now (turn at had flag)).next }
 {
-    match leb128::leb128_u64(s, at) {
-        ParsedU64::Number(c, next) => counted_at(at, had, flag, c, next),
-        ParsedU64::Refused(n, place) => Step::Off(n, place),
-    }
+    let (c, next) = leb128::leb128_u64(s, at)?;
+    counted_at(at, had, flag, c, next)
 }
 
 // What survives of a column: how many readings before its first fault, and that fault. A count at fault has none.
 pub fn survey(s: &[u8]) -> Survey
-    ensures { result ≡ survey_of (bool_trace s.now) }
+    ensures { seen result ≡ survey_of (bool_trace s.now) }
 {
     let mut at: usize = 0;
     let mut had: u64 = 0;
     let mut flag: u8 = 0;
     while at < s.len() {
         match turn_at(s, at, had, flag) {
-            Step::On(next, n, f) => {
+            Ok((next, n, f)) => {
                 at = next;
                 had = n;
                 flag = f;
             }
-            Step::Off(number, place) => {
+            Err(e) => {
                 return Survey {
                     readings: had,
-                    number: number,
-                    place: place,
+                    fault: Some(e),
                 };
             }
         }
     }
     Survey {
         readings: had,
-        number: 0,
-        place: 0,
+        fault: None,
     }
 }
 
@@ -83,10 +75,10 @@ pub fn count(s: &[u8]) -> Answer
     ensures { answer_of result ≡ outcome (bool_trace s.now) }
 {
     let found = survey(s);
-    if found.number == 0 {
-        return Answer::Done(found.readings);
+    match found.fault {
+        None => Ok(found.readings),
+        Some(e) => Err(e),
     }
-    Answer::Refused(found.number, found.place)
 }
 
 // The same byte in the slots from `from` up to `to`.
@@ -111,35 +103,24 @@ fn fill(s: &[u8], values: &mut [u8]) -> Answer
     let mut had: u64 = 0;
     let mut flag: u8 = 0;
     while at < s.len() {
-        match turn_at(s, at, had, flag) {
-            Step::On(next, n, f) => {
-                fill_same(values, had as usize, n as usize, flag);
-                at = next;
-                had = n;
-                flag = f;
-            }
-            Step::Off(n, place) => {
-                return Answer::Refused(n, place);
-            }
-        }
+        let (next, n, f) = turn_at(s, at, had, flag)?;
+        fill_same(values, had as usize, n as usize, flag);
+        at = next;
+        had = n;
+        flag = f;
     }
-    Answer::Done(had)
+    Ok(had)
 }
 
 // The whole column into lent slots.
 pub fn decode(s: &[u8], values: &mut [u8]) -> Answer
     ensures { Decoded (bool_trace s.now) values.old values.new (answer_of result) }
 {
-    match count(s) {
-        Answer::Done(n) => {
-            if n <= values.len() as u64 {
-                fill(s, values)
-            } else {
-                Answer::Refused(9, 0)
-            }
-        }
-        Answer::Refused(n, place) => Answer::Refused(n, place),
+    let n = count(s)?;
+    if (values.len() as u64) < n {
+        return Err(Refusal(Why::TooFewSlots, 0));
     }
+    fill(s, values)
 }
 
 // What survives of a column into lent slots: 9 where too few are lent for it, else how many readings that is.
@@ -148,8 +129,8 @@ pub fn keep(s: &[u8], values: &mut [u8]) -> Answer
 {
     let n = survey(s).readings;
     if n <= values.len() as u64 {
-        fill(s, values);
-        return Answer::Done(n);
+        let _ = fill(s, values);
+        return Ok(n);
     }
-    Answer::Refused(9, 0)
+    Err(Refusal(Why::TooFewSlots, 0))
 }

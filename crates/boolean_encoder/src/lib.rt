@@ -13,7 +13,7 @@ ghost use Rattle.boolean_encoder.specs.Ahead.{alike, Flags};
 ghost use Rattle.boolean_encoder.specs.Writer.{bool_bytes, maybe_bytes};
 
 use encoding::Answer;
-use leb128_writer::Written;
+use refusal::{Refusal, Why};
 
 // Do the 32 bytes from k on all equal `flag`? No early way out, so that they are looked at at once.
 fn alike_block(values: &[u8], k: usize, flag: u8) -> bool
@@ -136,8 +136,8 @@ fn put_number(out: &mut [u8], at: usize, v: u64) -> usize
     ensures { PutAt out.old out.new at result (u64_bytes v) }
 {
     match leb128_writer::put_u64(v, out, at) {
-        Written::Next(next) => next,
-        Written::Refused(_, place) => place,
+        Ok(next) => next,
+        Err(Refusal(_, place)) => place,
     }
 }
 
@@ -161,10 +161,8 @@ fn put_counts(values: &[u8], out: &mut [u8])
 pub fn encoded_len(values: &[u8]) -> Answer
     ensures { answer_of result ≡ sized (bool_bytes values.now) (list_judged (length values.now) values.now) }
 {
-    match given_list::judge_list(values.len(), values) {
-        Answer::Done(_) => Answer::Done(counts_len(values) as u64),
-        Answer::Refused(n, place) => Answer::Refused(n, place),
-    }
+    given_list::judge_list(values.len(), values)?;
+    Ok(counts_len(values) as u64)
 }
 
 // The list as a column, at the front of `out`.
@@ -172,27 +170,20 @@ pub fn encode(values: &[u8], out: &mut [u8]) -> Answer
     ensures { Encoded (bool_bytes values.now) (list_judged (length values.now) values.now)
         out.old out.new (answer_of result) }
 {
-    match encoded_len(values) {
-        Answer::Done(n) => {
-            if n <= out.len() as u64 {
-                put_counts(values, out);
-                Answer::Done(n)
-            } else {
-                Answer::Refused(10, 0)
-            }
-        }
-        Answer::Refused(n, place) => Answer::Refused(n, place),
+    let n = encoded_len(values)?;
+    if (out.len() as u64) < n {
+        return Err(Refusal(Why::OutputTooShort, 0));
     }
+    put_counts(values, out);
+    Ok(n)
 }
 
 // A list that is written as no bytes: 0, or why it is refused.
 fn nothing_len(values: &[u8]) -> Answer
     ensures { answer_of result ≡ sized [] (list_judged (length values.now) values.now) }
 {
-    match given_list::judge_list(values.len(), values) {
-        Answer::Done(_) => Answer::Done(0),
-        Answer::Refused(n, place) => Answer::Refused(n, place),
-    }
+    given_list::judge_list(values.len(), values)?;
+    Ok(0)
 }
 
 // The same two of the form that writes nothing when all is false.

@@ -6,10 +6,12 @@ use mathlib.Core.List.{List, [], ◌++◌}
 use native.Mathlib.Omega.{arith}
 use lib.ListN.{length, replicate}
 use borrow.Author.Tests.{eq-eqb, ne_eqb}
+use Rattle.std.proofs.lemmas.Bool.{cases_lt}
 use Rattle.leb128.specs.Got.{got, bad}
 use Rattle.leb128.specs.Read.{u64_at}
+use Rattle.leb128.proofs.Laws.{u64-next}
 use Rattle.encoding.specs.Limit.{limit}
-use Rattle.boolean_decoder.specs.Turns.{turn, turns_from}
+use Rattle.boolean_decoder.specs.Turns.{turn, counted, turn_at, turns_from}
 use Rattle.boolean_decoder.proofs.Turning.{counted-whole, counted-many, counted-bad, turn-read, turn_end, readings-on}
 use Rattle.boolean_encoder.specs.Ahead.{alike}
 
@@ -43,20 +45,24 @@ module _ (s : List ℕ) (at had flag : ℕ) where
     unfolding alike
     looked-none e = omega (arith, L.owed, ap (alike flag) e)
 
-    pub looked-end : length s ≤ p → k ≡ had + alike flag (turns_from s (turn at had flag)).readings
-    looked-end l = looked-none (readings-on s (turn p k f) (turn_end s (turn p k f) l))
+    -- no count is read here: the column is over, or has a fault
+    pub looked-bad : (number place : ℕ) → u64_at s p ≡ bad number place → k ≡ had + alike flag (turns_from s (turn at had flag)).readings
+    looked-bad number place e = looked-none (go (cases_lt p (length s)))
+      where
+        go : (p < length s) ⊎ (length s ≤ p) → (turns_from s (turn p k f)).readings ≡ []
+        go (inl l) = readings-on s (turn p k f) (turn-read s (turn p k f) (bad number place) l e ∙ counted-bad (turn p k f) number place)
+        go (inr l) = readings-on s (turn p k f) (turn_end s (turn p k f) l)
 
-    pub looked-bad : (number place : ℕ) → p < length s → u64_at s p ≡ bad number place → k ≡ had + alike flag (turns_from s (turn at had flag)).readings
-    looked-bad number place l e =
-        looked-none (readings-on s (turn p k f) (turn-read s (turn p k f) (bad number place) l e ∙ counted-bad (turn p k f) number place))
+    module _ (c next : ℕ) (e : u64_at s p ≡ got c next) where
+      read : turn_at s (turn p k f) ≡ counted (turn p k f) (got c next)
+      read = turn-read s (turn p k f) (got c next) (omega (arith, u64-next s p c next e)) e
 
-    module _ (c next : ℕ) (l : p < length s) (e : u64_at s p ≡ got c next) where
       pub looked-many : limit < k + c → k ≡ had + alike flag (turns_from s (turn at had flag)).readings
-      looked-many m = looked-none (readings-on s (turn p k f) (turn-read s (turn p k f) (got c next) l e ∙ counted-many (turn p k f) c next m))
+      looked-many m = looked-none (readings-on s (turn p k f) (read ∙ counted-many (turn p k f) c next m))
 
       module _ (m : k + c ≤ limit) where
         rest-is : (turns_from s (turn p k f)).readings ≡ replicate c f ++ (turns_from s (turn next (k + c) (1 - f))).readings
-        rest-is = readings-on s (turn p k f) (turn-read s (turn p k f) (got c next) l e ∙ counted-whole (turn p k f) c next m)
+        rest-is = readings-on s (turn p k f) (read ∙ counted-whole (turn p k f) c next m)
 
         -- readings of the other byte
         pub looked-other : (f ≡ flag → ⊥) → 0 < c → k ≡ had + alike flag (turns_from s (turn at had flag)).readings

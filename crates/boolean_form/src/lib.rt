@@ -11,9 +11,8 @@ ghost use Rattle.own_form.specs.Cases.{form_as};
 ghost use Rattle.own_form.specs.Difference.{differ_at};
 ghost use Rattle.own_form.specs.Form.{compared, form_in};
 
-use count_place::Place;
+use count_place::Differs;
 use encoding::LIMIT;
-use leb128::ParsedU64;
 use own_form::Form;
 
 // The index behind the readings `flag` from the count at `at` on, before the first of the other byte: counts of 0 between are passed over. Only a column
@@ -25,23 +24,16 @@ fn turn_end(s: &[u8], at: usize, had: u64, flag: u8) -> u64
     let mut p = at;
     let mut k = had;
     let mut f = flag;
-    while p < s.len() {
-        match leb128::leb128_u64(s, p) {
-            ParsedU64::Number(c, next) => {
-                if LIMIT - k < c {
-                    return k;
-                }
-                if f != flag && 0 < c {
-                    return k;
-                }
-                p = next;
-                k += c;
-                f = 1 - f;
-            }
-            ParsedU64::Refused(_, _) => {
-                return k;
-            }
+    while let Ok((c, next)) = leb128::leb128_u64(s, p) {
+        if LIMIT - k < c {
+            return k;
         }
+        if f != flag && 0 < c {
+            return k;
+        }
+        p = next;
+        k += c;
+        f = 1 - f;
     }
     k
 }
@@ -57,20 +49,20 @@ fn turns_compared(s: &[u8], total: u64) -> Form
     while had < total {
         let k = turn_end(s, at, had, flag);
         match count_place::compare_u64(s, at, k - had) {
-            Place::Behind(next) => {
+            Ok(next) => {
                 at = next;
                 had = k;
                 flag = 1 - flag;
             }
-            Place::Differs(place) => {
-                return Form::Other(place);
+            Err(Differs(place)) => {
+                return Ok(Some(place));
             }
         }
     }
     if at < s.len() {
-        return Form::Other(at);
+        return Ok(Some(at));
     }
-    Form::Ours
+    Ok(None)
 }
 
 // Whether a column is what our writer gives for the list it reads as; if not, where it differs first; or the column's own fault.
@@ -78,8 +70,8 @@ pub fn turns_form(s: &[u8]) -> Form
     ensures { form_as result ≡ form_in bool_trace bool_bytes s.now }
 {
     let found = boolean_decoder::survey(s);
-    if found.number == 0 {
-        return turns_compared(s, found.readings);
+    match found.fault {
+        None => turns_compared(s, found.readings),
+        Some(e) => Err(e),
     }
-    Form::Refused(found.number, found.place)
 }

@@ -8,13 +8,14 @@ ghost use Rattle.encoding.specs.Cases.{answer_of};
 ghost use Rattle.boolean_decoder.specs.Decoded.{Decoded};
 ghost use Rattle.boolean_decoder.specs.Turns.{bool_trace};
 ghost use Rattle.splice.specs.Contract.{BooleanSpliced};
-ghost use Rattle.splice.specs.Edit.{given_boolean};
+ghost use Rattle.splice.specs.Edit.{given_boolean, spliced_of};
 ghost use Rattle.splice.specs.Kinds.{boolean};
 ghost use Rattle.splice.specs.Ready.{HasRow, Ready, Good, Writable, put_behind, Finished};
 
 use block_frame::put_frame;
 use encoding::Answer;
-use splice::{ColumnKind, End, Found, Planned, Spliced};
+use refusal::Refusal;
+use splice::{ColumnKind, End, Found, Spliced};
 
 // The old list into the slots.
 fn load_u8(block: &[u8], at: usize, till: usize, values: &mut [u8]) -> Answer
@@ -29,7 +30,7 @@ fn fill_u8(values: &[u8], out: &mut [u8], at: usize)
     requires { Writable boolean values.now (length values.now) values.now at (length out.old) }
     ensures { out.new ≡ put_behind at (boolean.writes values.now) out.old }
 {
-    boolean_encoder::encode(values, &mut out[at..]);
+    let _ = boolean_encoder::encode(values, &mut out[at..]);
 }
 
 // The new block around a column of so many bytes.
@@ -39,39 +40,44 @@ fn put_block_u8(
     size: usize,
     values: &[u8],
     out: &mut [u8],
-) -> Spliced
+) -> Result<Spliced, Refusal>
     requires has_row { HasRow block.now position }
     requires good { Good (length values.now) values.now }
     requires size_value { size ≡ length (boolean.writes values.now) }
-    ensures { Finished boolean block.now position values.now out.old out.new result }
+    ensures { Finished boolean block.now position values.now out.old out.new (spliced_of result) }
 {
-    let frame = put_frame(block, position, size, out);
-    if frame.number != 0 {
-        return splice::refused(frame.number, frame.place);
-    }
-    let at = frame.at;
-    fill_u8(values, out, at);
+    let frame = put_frame(block, position, size, out)?;
+    fill_u8(values, out, frame.at);
     splice::block_answer(out, frame.len, size, values.len())
 }
 
 // 10, or the new block, for the list that stands in the slots.
-fn write_block_u8(block: &[u8], position: usize, values: &[u8], out: &mut [u8]) -> Spliced
+fn write_block_u8(
+    block: &[u8],
+    position: usize,
+    values: &[u8],
+    out: &mut [u8],
+) -> Result<Spliced, Refusal>
     requires has_row { HasRow block.now position }
     requires good { Good (length values.now) values.now }
-    ensures { Finished boolean block.now position values.now out.old out.new result }
+    ensures { Finished boolean block.now position values.now out.old out.new (spliced_of result) }
 {
-    match boolean_encoder::encoded_len(values) {
-        Answer::Done(size) => put_block_u8(block, position, size as usize, values, out),
-        Answer::Refused(n, place) => splice::refused(n, place),
-    }
+    let size = boolean_encoder::encoded_len(values)? as usize;
+    put_block_u8(block, position, size, values, out)
 }
 
 // The same for the slots' first `len`.
-fn finish_u8(block: &[u8], position: usize, len: usize, values: &[u8], out: &mut [u8]) -> Spliced
+fn finish_u8(
+    block: &[u8],
+    position: usize,
+    len: usize,
+    values: &[u8],
+    out: &mut [u8],
+) -> Result<Spliced, Refusal>
     requires has_row { HasRow block.now position }
     requires len_in_bounds { len ≤ length values.now }
     requires good { Good (length (take len values.now)) (take len values.now) }
-    ensures { Finished boolean block.now position (take len values.now) out.old out.new result }
+    ensures { Finished boolean block.now position (take len values.now) out.old out.new (spliced_of result) }
 {
     write_block_u8(block, position, &values[..len], out)
 }
@@ -86,15 +92,15 @@ fn edit_u8(
     new: &[u8],
     values: &mut [u8],
     out: &mut [u8],
-) -> Spliced
+) -> Result<Spliced, Refusal>
     requires ready { Ready boolean block.now position start end (length new.now) (length values.old) found.at found.till found.old found.len }
     requires value { given_boolean new.now ≡ done 0 }
     ensures { BooleanSpliced boolean block.now position start end new.now
-        values.old values.new out.old out.new result }
+        values.old values.new out.old out.new (spliced_of result) }
 {
-    load_u8(block, found.at, found.till, values);
+    let _ = load_u8(block, found.at, found.till, values);
     let old = found.old;
-    slots_u8::splice_u8(values, old, start, splice::end_in(end, old), new);
+    let _ = slots::splice(values, old, start, splice::end_in(end, old), new);
     finish_u8(block, position, found.len, values, out)
 }
 
@@ -107,11 +113,11 @@ pub fn splice_boolean(
     new: &[u8],
     values: &mut [u8],
     out: &mut [u8],
-) -> Spliced
+) -> Result<Spliced, Refusal>
     ensures { BooleanSpliced boolean block.now position start end new.now
-        values.old values.new out.old out.new result }
+        values.old values.new out.old out.new (spliced_of result) }
 {
-    match splice::plan(
+    let found = splice::plan(
         block,
         position,
         ColumnKind::Boolean,
@@ -121,8 +127,6 @@ pub fn splice_boolean(
         new,
         values.len(),
         values.len(),
-    ) {
-        Planned::Ready(found) => edit_u8(block, position, found, start, end, new, values, out),
-        Planned::Refused(n, place) => splice::refused(n, place),
-    }
+    )?;
+    edit_u8(block, position, found, start, end, new, values, out)
 }

@@ -1,6 +1,6 @@
 -- What survives of a boolean column is a list that can be written: bytes 0 and 1, no more than the limit. So what `save` leaves in the slot and the
 -- output; and the size that is found for it. Assumes nothing.
-use Prim.Native.Nat.{ℕ, ◌+◌, ◌≤◌}
+use Prim.Native.Nat.{ℕ, ◌≤◌}
 use mathlib.Core.Path.{◌≡◌, refl, sym, ◌∙◌, ap, subst}
 use mathlib.Core.List.{List, ◌++◌}
 use mathlib.Core.Bool.{Bool, true}
@@ -9,9 +9,8 @@ use lib.ListN.{length, take, drop}
 use borrow.Author.Tests.{le-leb}
 use Rattle.leb128.specs.Answer.{Answer, done, refused, within, left}
 use Rattle.encoding.specs.Given.{list_judged, Encoded}
-use Rattle.encoding.specs.Survivors.{survey_of, surviving}
+use Rattle.encoding.specs.Survivors.{survey_of, surviving, Surveyed}
 use Rattle.encoding.specs.Walk.{Trace}
-use Rattle.encoding.specs.declared.Survey.{Survey}
 use Rattle.encoding.proofs.Surveying.{survey-readings}
 use Rattle.boolean_decoder.specs.Decoded.{Decoded}
 use Rattle.boolean_decoder.specs.Turns.{bool_trace}
@@ -46,7 +45,7 @@ fresh s = bool_bytes (bool_trace s).readings
 abbrev Put : List ℕ → ℕ → List ℕ → List ℕ → Answer → Type 0
 Put v n out out' o = Encoded (bool_bytes (take n v)) (list_judged (length (take n v)) (take n v)) out out' o
 
-module _ (s v out : List ℕ) (r : Survey) (e : r ≡ survey_of (bool_trace s)) (l : r.readings ≤ length v) where
+module _ (s v out : List ℕ) (r : Surveyed) (e : r ≡ survey_of (bool_trace s)) (l : r.readings ≤ length v) where
   pub save-done : (size : ℕ) → size ≡ length (fresh s) → size ≤ length out → (v' out' : List ℕ) (k o : Answer)
       → Decoded (surviving (bool_trace s)) v v' k → Put v' r.readings out out' o
       → SavedTurns true (bool_trace s) (fresh s) v v' out out' (saved r.readings size r.number r.place)

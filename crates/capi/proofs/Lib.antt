@@ -1,4 +1,3 @@
 -- What follows from the contracts, and laws of the forms.
 pub mod Nth
 pub mod One
-pub mod Telling

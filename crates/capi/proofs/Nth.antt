@@ -20,10 +20,9 @@ use Rattle.delta_cursor.specs.State as delta
 use Rattle.delta_cursor.proofs.Calls as delta-calls
 use Rattle.boolean_cursor.specs.State as boolean
 use Rattle.boolean_cursor.proofs.Calls as boolean-calls
-use Rattle.delta_cursor.specs.declared.DeltaAnswer.{DeltaAnswer}
-use Rattle.delta_cursor.specs.declared.DeltaAnswer.TheVariants as deltaAnswer
-use Rattle.pieces.specs.Delta.{reading_of, reading_at}
-use Rattle.pieces.specs.declared.delta.DeltaPiece.{DeltaPiece}
+use Rattle.delta_cursor.specs.Answer.{DeltaAnswer}
+use Rattle.delta_cursor.specs.Answer as deltaAnswer
+use Rattle.pieces.specs.Delta.{DeltaPiece, reading_of, reading_at}
 use Rattle.pieces.proofs.Repeating.{each-times}
 use Rattle.pieces.proofs.RlePieces as rle-pieces
 use Rattle.pieces.proofs.DeltaPieces as delta-pieces

@@ -5,11 +5,11 @@ use Rattle.leb128.specs.Got.{Got, got, bad}
 use Rattle.leb128.specs.Answer.{Answer, done, refused}
 use Rattle.column_specification.specs.Specification.{Packing, made}
 use Rattle.column_specification.specs.Specification as packing
-use Rattle.encoding.specs.declared.Survey.{Survey as RawSurvey}
+use Rattle.encoding.specs.Survivors.{Surveyed}
 use Rattle.salvage.specs.Salvage.{Outcome, saved, refusal}
-use Rattle.column_part.specs.declared.Part.{Part as RawPart}
+use Rattle.column_part.specs.Part.{Part as RawPart}
 use Rattle.corrections.specs.Over.{Over, corrected, scanned, neither}
-use Rattle.block_frame.specs.declared.Frame.{Frame as RawFrame}
+use Rattle.block_frame.specs.Frame.{Frame as RawFrame}
 use Rattle.capi.specs.declared.NumberU64.{NumberU64}
 use Rattle.capi.specs.declared.NumberI64.{NumberI64}
 use Rattle.capi.specs.declared.NumberU32.{NumberU32}
@@ -38,7 +38,7 @@ counted (done n) = record { number = 0; place = 0; count = n }
 counted (refused r place) = record { number = r; place = place; count = 0 }
 
 -- what survives of a column
-abbrev pub survey_as : RawSurvey → Survey
+abbrev pub survey_as : Surveyed → Survey
 survey_as s = record { fault = s.number; place = s.place; readings = s.readings }
 
 -- a salvage: the column's fault beside the call's own refusal

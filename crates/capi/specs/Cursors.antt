@@ -3,22 +3,31 @@
 use Rattle.std.specs.Prelude.{ℕ, List, ℤ, pos}
 use Rattle.rle_cursor.specs.State as rle
 use Rattle.rle_cursor.specs.declared.RleCursor.{RleCursor}
-use Rattle.rle_cursor.specs.declared.RleAnswer.{RleAnswer}
-use Rattle.rle_cursor.specs.declared.RleAnswer.TheVariants as rleAnswer
+use Rattle.rle_cursor.specs.Answer.{RleAnswer}
+use Rattle.rle_cursor.specs.Answer as rleAnswer
 use Rattle.delta_cursor.specs.State as delta
 use Rattle.delta_cursor.specs.declared.DeltaCursor.{DeltaCursor}
-use Rattle.delta_cursor.specs.declared.DeltaAnswer.{DeltaAnswer}
-use Rattle.delta_cursor.specs.declared.DeltaAnswer.TheVariants as deltaAnswer
+use Rattle.delta_cursor.specs.Answer.{DeltaAnswer}
+use Rattle.delta_cursor.specs.Answer as deltaAnswer
+use Rattle.boolean_cursor.specs.State.{BooleanAnswer}
 use Rattle.boolean_cursor.specs.State as boolean
 use Rattle.boolean_cursor.specs.declared.BooleanCursor.{BooleanCursor}
-use Rattle.boolean_cursor.specs.declared.BooleanAnswer.{BooleanAnswer}
-use Rattle.boolean_cursor.specs.declared.BooleanAnswer.TheVariants as booleanAnswer
 use Rattle.capi.specs.declared.NextU64.{NextU64}
 use Rattle.capi.specs.declared.NextI64.{NextI64}
 use Rattle.capi.specs.declared.NextU8.{NextU8}
-use Rattle.capi.specs.declared.cursors.RleStepped.{RleStepped}
-use Rattle.capi.specs.declared.cursors.DeltaStepped.{DeltaStepped}
-use Rattle.capi.specs.declared.cursors.BooleanStepped.{BooleanStepped}
+
+-- the state behind a step, and the step's answer in this form
+pub record RleStepped : Type 0 where
+  pub cursor : RleCursor
+  pub answer : NextU64
+
+pub record DeltaStepped : Type 0 where
+  pub cursor : DeltaCursor
+  pub answer : NextI64
+
+pub record BooleanStepped : Type 0 where
+  pub cursor : BooleanCursor
+  pub answer : NextU8
 
 abbrev pub next_u64 : RleAnswer → NextU64
 next_u64 (rleAnswer.Present value) = record { number = 0; what = 1; place = 0; value = value }
@@ -33,9 +42,9 @@ next_i64 deltaAnswer.End = record { number = 0; what = 3; place = 0; value = pos
 next_i64 (deltaAnswer.Refused number place) = record { number = number; what = 0; place = place; value = pos 0 }
 
 abbrev pub next_u8 : BooleanAnswer → NextU8
-next_u8 (booleanAnswer.Present value) = record { number = 0; what = 1; place = 0; value = value }
-next_u8 booleanAnswer.End = record { number = 0; what = 3; place = 0; value = 0 }
-next_u8 (booleanAnswer.Refused number place) = record { number = number; what = 0; place = place; value = 0 }
+next_u8 (boolean.Present value) = record { number = 0; what = 1; place = 0; value = value }
+next_u8 boolean.End = record { number = 0; what = 3; place = 0; value = 0 }
+next_u8 (boolean.Refused number place) = record { number = number; what = 0; place = place; value = 0 }
 
 -- one step of the library, from any state, its answer in this form
 abbrev pub rle_step : List ℕ → RleCursor → RleStepped

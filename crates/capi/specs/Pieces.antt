@@ -4,12 +4,12 @@ use Rattle.std.specs.Prelude.{ℕ, List}
 use Rattle.rle_cursor.specs.declared.RleCursor.{RleCursor}
 use Rattle.delta_cursor.specs.declared.DeltaCursor.{DeltaCursor}
 use Rattle.boolean_cursor.specs.declared.BooleanCursor.{BooleanCursor}
+use Rattle.pieces.specs.Rle.{RlePiece}
 use Rattle.pieces.specs.Rle as rle
+use Rattle.pieces.specs.Delta.{DeltaPiece}
 use Rattle.pieces.specs.Delta as delta
+use Rattle.pieces.specs.Boolean.{BooleanPiece}
 use Rattle.pieces.specs.Boolean as boolean
-use Rattle.pieces.specs.declared.rle.RlePiece.{RlePiece}
-use Rattle.pieces.specs.declared.delta.DeltaPiece.{DeltaPiece}
-use Rattle.pieces.specs.declared.boolean.BooleanPiece.{BooleanPiece}
 use Rattle.capi.specs.Cursors.{next_u64, next_i64, next_u8}
 use Rattle.capi.specs.declared.NextU64.{NextU64}
 use Rattle.capi.specs.declared.NextI64.{NextI64}
@@ -17,9 +17,19 @@ use Rattle.capi.specs.declared.NextU8.{NextU8}
 use Rattle.capi.specs.declared.PieceU64.{PieceU64}
 use Rattle.capi.specs.declared.PieceI64.{PieceI64}
 use Rattle.capi.specs.declared.PieceU8.{PieceU8}
-use Rattle.capi.specs.declared.cursor_pieces.RleTaken.{RleTaken}
-use Rattle.capi.specs.declared.cursor_pieces.DeltaTaken.{DeltaTaken}
-use Rattle.capi.specs.declared.cursor_pieces.BooleanTaken.{BooleanTaken}
+
+-- the state behind a piece, and the piece in this form
+pub record RleTaken : Type 0 where
+  pub cursor : RleCursor
+  pub piece : PieceU64
+
+pub record DeltaTaken : Type 0 where
+  pub cursor : DeltaCursor
+  pub piece : PieceI64
+
+pub record BooleanTaken : Type 0 where
+  pub cursor : BooleanCursor
+  pub piece : PieceU8
 
 abbrev pub times_u64 : NextU64 → ℕ → PieceU64
 times_u64 a times = record { number = a.number; what = a.what; place = a.place; value = a.value; times = times }

@@ -14,13 +14,13 @@ ghost use Rattle.boolean_encoder.specs.Writer.{bool_bytes, maybe_bytes};
 ghost use Rattle.capi.specs.Cases.{counted};
 ghost use Rattle.capi.specs.Told.{Told};
 
-use crate::{Counted, answers};
+use crate::Counted;
 
 #[unsafe(no_mangle)]
 pub extern "C" fn grundavok_rle_count(s: &[u8]) -> Counted
     ensures { result ≡ counted (outcome (trace u64_e s.now)) }
 {
-    answers::answer(rle_decoder::count(s))
+    Counted::from(rle_decoder::count(s))
 }
 
 #[unsafe(no_mangle)]
@@ -28,7 +28,7 @@ pub extern "C" fn grundavok_rle_decode(s: &[u8], values: &mut [u64], present: &m
     ensures { Told (Decoded (trace u64_e s.now) (slot_of 0) flag_of
         values.old values.new present.old present.new) result }
 {
-    answers::answer(rle_decoder::decode(s, values, present))
+    Counted::from(rle_decoder::decode(s, values, present))
 }
 
 #[unsafe(no_mangle)]
@@ -36,7 +36,7 @@ pub extern "C" fn grundavok_rle_encoded_len(values: &[u64], present: &[u8]) -> C
     ensures { result ≡ counted (sized (column_bytes u64_e (slot_list values.now present.now))
         (list_judged (length values.now) present.now)) }
 {
-    answers::answer(rle_encoder::encoded_len(values, present))
+    Counted::from(rle_encoder::encoded_len(values, present))
 }
 
 #[unsafe(no_mangle)]
@@ -44,14 +44,14 @@ pub extern "C" fn grundavok_rle_encode(values: &[u64], present: &[u8], out: &mut
     ensures { Told (Encoded (column_bytes u64_e (slot_list values.now present.now))
         (list_judged (length values.now) present.now) out.old out.new) result }
 {
-    answers::answer(rle_encoder::encode(values, present, out))
+    Counted::from(rle_encoder::encode(values, present, out))
 }
 
 #[unsafe(no_mangle)]
 pub extern "C" fn grundavok_delta_count(s: &[u8]) -> Counted
     ensures { result ≡ counted (outcome (delta_trace s.now)) }
 {
-    answers::answer(delta_decoder::count(s))
+    Counted::from(delta_decoder::count(s))
 }
 
 #[unsafe(no_mangle)]
@@ -63,7 +63,7 @@ pub extern "C" fn grundavok_delta_decode(
     ensures { Told (Decoded (delta_trace s.now) (slot_of (pos 0)) flag_of
         values.old values.new present.old present.new) result }
 {
-    answers::answer(delta_decoder::decode(s, values, present))
+    Counted::from(delta_decoder::decode(s, values, present))
 }
 
 #[unsafe(no_mangle)]
@@ -71,7 +71,7 @@ pub extern "C" fn grundavok_delta_encoded_len(values: &[i64], present: &[u8]) ->
     ensures { result ≡ counted (sized (delta_bytes (slot_list values.now present.now))
         (delta_judged values.now present.now)) }
 {
-    answers::answer(delta_encoder::encoded_len(values, present))
+    Counted::from(delta_encoder::encoded_len(values, present))
 }
 
 #[unsafe(no_mangle)]
@@ -79,28 +79,28 @@ pub extern "C" fn grundavok_delta_encode(values: &[i64], present: &[u8], out: &m
     ensures { Told (Encoded (delta_bytes (slot_list values.now present.now))
         (delta_judged values.now present.now) out.old out.new) result }
 {
-    answers::answer(delta_encoder::encode(values, present, out))
+    Counted::from(delta_encoder::encode(values, present, out))
 }
 
 #[unsafe(no_mangle)]
 pub extern "C" fn grundavok_boolean_count(s: &[u8]) -> Counted
     ensures { result ≡ counted (outcome (bool_trace s.now)) }
 {
-    answers::answer(boolean_decoder::count(s))
+    Counted::from(boolean_decoder::count(s))
 }
 
 #[unsafe(no_mangle)]
 pub extern "C" fn grundavok_boolean_decode(s: &[u8], values: &mut [u8]) -> Counted
     ensures { Told (DecodedFlags (bool_trace s.now) values.old values.new) result }
 {
-    answers::answer(boolean_decoder::decode(s, values))
+    Counted::from(boolean_decoder::decode(s, values))
 }
 
 #[unsafe(no_mangle)]
 pub extern "C" fn grundavok_boolean_encoded_len(values: &[u8]) -> Counted
     ensures { result ≡ counted (sized (bool_bytes values.now) (list_judged (length values.now) values.now)) }
 {
-    answers::answer(boolean_encoder::encoded_len(values))
+    Counted::from(boolean_encoder::encoded_len(values))
 }
 
 #[unsafe(no_mangle)]
@@ -108,7 +108,7 @@ pub extern "C" fn grundavok_boolean_encode(values: &[u8], out: &mut [u8]) -> Cou
     ensures { Told (Encoded (bool_bytes values.now) (list_judged (length values.now) values.now)
         out.old out.new) result }
 {
-    answers::answer(boolean_encoder::encode(values, out))
+    Counted::from(boolean_encoder::encode(values, out))
 }
 
 // The all-false form.
@@ -116,7 +116,7 @@ pub extern "C" fn grundavok_boolean_encode(values: &[u8], out: &mut [u8]) -> Cou
 pub extern "C" fn grundavok_boolean_maybe_encoded_len(values: &[u8]) -> Counted
     ensures { result ≡ counted (sized (maybe_bytes values.now) (list_judged (length values.now) values.now)) }
 {
-    answers::answer(boolean_encoder::maybe_encoded_len(values))
+    Counted::from(boolean_encoder::maybe_encoded_len(values))
 }
 
 #[unsafe(no_mangle)]
@@ -124,5 +124,5 @@ pub extern "C" fn grundavok_boolean_maybe_encode(values: &[u8], out: &mut [u8]) 
     ensures { Told (Encoded (maybe_bytes values.now) (list_judged (length values.now) values.now)
         out.old out.new) result }
 {
-    answers::answer(boolean_encoder::maybe_encode(values, out))
+    Counted::from(boolean_encoder::maybe_encode(values, out))
 }

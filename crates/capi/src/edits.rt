@@ -5,7 +5,7 @@ ghost use Rattle.splice.specs.Kinds.{integer, delta, boolean, text};
 ghost use Rattle.counted_table.specs.Calls.{OptionalCounted, BooleanCounted, TextCounted};
 ghost use Rattle.capi.specs.Cases.{counted};
 
-use crate::{Counted, answers};
+use crate::Counted;
 use counted_table::CountedTable;
 use counted_table::edits::CountedSpliced;
 use splice::End;
@@ -145,7 +145,7 @@ pub extern "C" fn grundavok_slots_splice_u64(
     ensures held_after { held.new ≡ spliced_slots 0 (splice_answer (length held.old) old start end (length new_values.now))
         held.old old start end new_values.now }
 {
-    answers::answer(slots_u64::splice_u64(held, old, start, end, new_values))
+    Counted::from(slots::splice::<u64>(held, old, start, end, new_values))
 }
 
 #[unsafe(no_mangle)]
@@ -160,7 +160,7 @@ pub extern "C" fn grundavok_slots_splice_i64(
     ensures held_after { held.new ≡ spliced_slots (pos 0) (splice_answer (length held.old) old start end (length new_values.now))
         held.old old start end new_values.now }
 {
-    answers::answer(slots_i64::splice_i64(held, old, start, end, new_values))
+    Counted::from(slots::splice::<i64>(held, old, start, end, new_values))
 }
 
 #[unsafe(no_mangle)]
@@ -175,5 +175,5 @@ pub extern "C" fn grundavok_slots_splice_u8(
     ensures held_after { held.new ≡ spliced_slots 0 (splice_answer (length held.old) old start end (length new_values.now))
         held.old old start end new_values.now }
 {
-    answers::answer(slots_u8::splice_u8(held, old, start, end, new_values))
+    Counted::from(slots::splice::<u8>(held, old, start, end, new_values))
 }

@@ -5,29 +5,32 @@ ghost use Rattle.own_form.specs.Form.{form_of};
 ghost use Rattle.capi.specs.Forms.{form_as};
 
 use crate::Form;
+use refusal::Refusal;
 
-fn told(f: own_form::Form) -> Form
-    ensures { result ≡ form_as (forms.form_as f) }
-{
-    match f {
-        own_form::Form::Ours => Form {
-            number: 0,
-            ours: 1,
-            place: 0,
-            differs: 0,
-        },
-        own_form::Form::Other(place) => Form {
-            number: 0,
-            ours: 0,
-            place: 0,
-            differs: place,
-        },
-        own_form::Form::Refused(number, place) => Form {
-            number: number,
-            ours: 0,
-            place: place,
-            differs: 0,
-        },
+impl From<own_form::Form> for Form {
+    ghost from_gives = { λ f c. c ≡ form_as (forms.form_as f) };
+
+    fn from(f: own_form::Form) -> Form {
+        match f {
+            Ok(None) => Form {
+                number: 0,
+                ours: 1,
+                place: 0,
+                differs: 0,
+            },
+            Ok(Some(place)) => Form {
+                number: 0,
+                ours: 0,
+                place: 0,
+                differs: place,
+            },
+            Err(Refusal(why, place)) => Form {
+                number: u8::from(why),
+                ours: 0,
+                place,
+                differs: 0,
+            },
+        }
     }
 }
 
@@ -35,5 +38,5 @@ fn told(f: own_form::Form) -> Form
 pub extern "C" fn grundavok_column_form(typ: u8, s: &[u8]) -> Form
     ensures { result ≡ form_as (form_of typ s.now) }
 {
-    told(column_form::column_form(typ, s))
+    Form::from(column_form::column_form(typ, s))
 }

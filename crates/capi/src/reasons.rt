@@ -9,9 +9,10 @@ ghost use Rattle.block_reason.specs.Why.{block_reason};
 ghost use Rattle.capi.specs.Reasons.{three, column_facts, table_facts, signed, reasonless, because, run_as, table_as, column_reason_as, table_reason_as, block_reason_as};
 
 use crate::Reason;
-use block_reason::Why;
+use block_reason::Fault;
 use reason::{Count, Told};
-use table_reason::{Row, TableFacts, TableReason, TableTold};
+use refusal::Refusal;
+use table_reason::{TableFacts, TableReason};
 
 // Which facts, and their numbers.
 #[derive(Clone, Copy)]
@@ -44,43 +45,49 @@ fn three_of(which: u8, first: u64, second: u64, third: u64) -> Facts
     }
 }
 
-fn column_facts(f: reason::Facts) -> Facts
-    ensures { result ≡ column_facts (facts_of f) }
-{
-    match f {
-        reason::Facts::Bytes(n) => three_of(1, n, 0, 0),
-        reason::Facts::Name(n, there) => three_of(2, n, there, 0),
-        reason::Facts::Passes(had, c) => three_of(3, had, c, 0),
-        reason::Facts::Sum(z, d) => Facts {
-            which: 4,
-            first: 0,
-            second: 0,
-            third: 0,
-            sum: z,
-            delta: d,
-        },
+impl From<reason::Facts> for Facts {
+    ghost from_gives = { λ f c. c ≡ column_facts (facts_of f) };
+
+    fn from(f: reason::Facts) -> Facts {
+        match f {
+            reason::Facts::Bytes(n) => three_of(1, n, 0, 0),
+            reason::Facts::Name(n, there) => three_of(2, n, there, 0),
+            reason::Facts::Passes(had, c) => three_of(3, had, c, 0),
+            reason::Facts::Sum(z, d) => Facts {
+                which: 4,
+                first: 0,
+                second: 0,
+                third: 0,
+                sum: z,
+                delta: d,
+            },
+        }
     }
 }
 
-fn table_facts(f: TableFacts) -> Facts
-    ensures { result ≡ table_facts (tables.facts_of f) }
-{
-    match f {
-        TableFacts::Bytes(n) => three_of(1, n, 0, 0),
-        TableFacts::Columns(n) => three_of(5, n, 0, 0),
-        TableFacts::Falls(a, b) => three_of(6, a as u64, b as u64, 0),
-        TableFacts::Compressed(a) => three_of(7, a as u64, 0, 0),
-        TableFacts::Lengths(high, low, room) => three_of(8, high, low, room),
+impl From<TableFacts> for Facts {
+    ghost from_gives = { λ f c. c ≡ table_facts (tables.facts_of f) };
+
+    fn from(f: TableFacts) -> Facts {
+        match f {
+            TableFacts::Bytes(n) => three_of(1, n, 0, 0),
+            TableFacts::Columns(n) => three_of(5, n, 0, 0),
+            TableFacts::Falls(a, b) => three_of(6, u64::from(a), u64::from(b), 0),
+            TableFacts::Compressed(a) => three_of(7, u64::from(a), 0, 0),
+            TableFacts::Lengths(high, low, room) => three_of(8, high, low, room),
+        }
     }
 }
 
-fn signed_of(c: Count) -> Signed
-    ensures { result ≡ signed (count_of c) }
-{
-    match c {
-        Count::Unread => Signed { sign: 0, size: 0 },
-        Count::Plus(n) => Signed { sign: 1, size: n },
-        Count::Minus(n) => Signed { sign: 2, size: n },
+impl From<Count> for Signed {
+    ghost from_gives = { λ n c. c ≡ signed (count_of n) };
+
+    fn from(n: Count) -> Signed {
+        match n {
+            Count::Unread => Signed { sign: 0, size: 0 },
+            Count::Plus(size) => Signed { sign: 1, size },
+            Count::Minus(size) => Signed { sign: 2, size },
+        }
     }
 }
 
@@ -132,72 +139,80 @@ fn of_table(fault: u8, place: usize, about: u8, which: u64, f: Facts) -> Reason
     }
 }
 
-fn run_reason(told: reason::Reason) -> Reason
-    ensures { result ≡ run_as (reason_of told) }
-{
-    let facts = told.facts;
-    let count = told.count;
-    let f = column_facts(facts);
-    let c = signed_of(count);
-    Reason {
-        number: 0,
-        fault: told.number,
-        about: 3,
-        sign: c.sign,
-        facts: f.which,
-        place: 0,
-        fault_place: told.place,
-        which: told.run,
-        begins: told.begins,
-        count: c.size,
-        index: told.index,
-        first: f.first,
-        second: f.second,
-        third: f.third,
-        sum: f.sum,
-        delta: f.delta,
+impl From<reason::Reason> for Reason {
+    ghost from_gives = { λ r c. c ≡ run_as (reason_of r) };
+
+    fn from(r: reason::Reason) -> Reason {
+        let Refusal(why, fault_place) = r.refusal;
+        let f = Facts::from(r.facts);
+        let n = Signed::from(r.count);
+        Reason {
+            number: 0,
+            fault: u8::from(why),
+            about: 3,
+            sign: n.sign,
+            facts: f.which,
+            place: 0,
+            fault_place,
+            which: r.run,
+            begins: r.begins,
+            count: n.size,
+            index: r.index,
+            first: f.first,
+            second: f.second,
+            third: f.third,
+            sum: f.sum,
+            delta: f.delta,
+        }
     }
 }
 
-fn row_reason(told: TableReason) -> Reason
-    ensures { result ≡ table_as (tables.reason_of told) }
-{
-    let facts = told.facts;
-    let row = told.row;
-    let f = table_facts(facts);
-    match row {
-        Row::Nowhere => of_table(told.number, told.place, 1, 0, f),
-        Row::At(i) => of_table(told.number, told.place, 2, i, f),
+impl From<TableReason> for Reason {
+    ghost from_gives = { λ r c. c ≡ table_as (tables.reason_of r) };
+
+    fn from(r: TableReason) -> Reason {
+        let Refusal(why, place) = r.refusal;
+        let f = Facts::from(r.facts);
+        match r.row {
+            Some(i) => of_table(u8::from(why), place, 2, i, f),
+            None => of_table(u8::from(why), place, 1, 0, f),
+        }
     }
 }
 
-fn column_told(t: Told) -> Reason
-    ensures { result ≡ column_reason_as (told_of t) }
-{
-    match t {
-        Told::Because(r) => run_reason(r),
-        Told::Faultless => no_reason(0, 0),
-        Told::Refused(number, place) => no_reason(number, place),
+impl From<Told> for Reason {
+    ghost from_gives = { λ t c. c ≡ column_reason_as (told_of t) };
+
+    fn from(t: Told) -> Reason {
+        match t {
+            Ok(Some(r)) => Reason::from(r),
+            Ok(None) => no_reason(0, 0),
+            Err(Refusal(why, place)) => no_reason(u8::from(why), place),
+        }
     }
 }
 
-fn table_told(t: TableTold) -> Reason
-    ensures { result ≡ table_reason_as (tables.told_of t) }
-{
-    match t {
-        TableTold::Because(r) => row_reason(r),
-        TableTold::Faultless => no_reason(0, 0),
+impl From<Option<TableReason>> for Reason {
+    ghost from_gives = { λ t c. c ≡ table_reason_as (tables.told_of t) };
+
+    fn from(t: Option<TableReason>) -> Reason {
+        match t {
+            Some(r) => Reason::from(r),
+            None => no_reason(0, 0),
+        }
     }
 }
 
-fn block_told(w: Why) -> Reason
-    ensures { result ≡ block_reason_as (why_of w) }
-{
-    match w {
-        Why::Faultless => no_reason(0, 0),
-        Why::Table(r) => row_reason(r),
-        Why::Column(_, r) => run_reason(r),
-        Why::Refused(number, place) => no_reason(number, place),
+impl From<block_reason::Why> for Reason {
+    ghost from_gives = { λ w c. c ≡ block_reason_as (why_of w) };
+
+    fn from(w: block_reason::Why) -> Reason {
+        match w {
+            Ok(None) => no_reason(0, 0),
+            Ok(Some(Fault::Table(r))) => Reason::from(r),
+            Ok(Some(Fault::Column(_, r))) => Reason::from(r),
+            Err(Refusal(why, place)) => no_reason(u8::from(why), place),
+        }
     }
 }
 
@@ -205,19 +220,19 @@ fn block_told(w: Why) -> Reason
 pub extern "C" fn grundavok_table_reason(block: &[u8]) -> Reason
     ensures { result ≡ table_reason_as (table_reason block.now) }
 {
-    table_told(table_reason::table_reason(block))
+    Reason::from(table_reason::table_reason(block))
 }
 
 #[unsafe(no_mangle)]
 pub extern "C" fn grundavok_column_reason(typ: u8, s: &[u8]) -> Reason
     ensures { result ≡ column_reason_as (column_reason typ s.now) }
 {
-    column_told(column_reason::column_reason(typ, s))
+    Reason::from(column_reason::column_reason(typ, s))
 }
 
 #[unsafe(no_mangle)]
 pub extern "C" fn grundavok_block_reason(block: &[u8], position: usize) -> Reason
     ensures { result ≡ block_reason_as (block_reason block.now position) }
 {
-    block_told(block_reason::block_reason(block, position))
+    Reason::from(block_reason::block_reason(block, position))
 }

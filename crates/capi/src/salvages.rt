@@ -14,34 +14,34 @@ ghost use Rattle.salvage.specs.Salvage.{SavedOptional, SavedTurns, SavedNames};
 ghost use Rattle.capi.specs.Cases.{survey_as};
 ghost use Rattle.capi.specs.Told.{ToldSalvage};
 
-use crate::{Salvaged, Survey, answers};
+use crate::{Salvaged, Survey};
 
 #[unsafe(no_mangle)]
 pub extern "C" fn grundavok_rle_survey(s: &[u8]) -> Survey
     ensures { result ≡ survey_as (survey_of (trace u64_e s.now)) }
 {
-    answers::survey(rle_decoder::survey(s))
+    Survey::from(rle_decoder::survey(s))
 }
 
 #[unsafe(no_mangle)]
 pub extern "C" fn grundavok_delta_survey(s: &[u8]) -> Survey
     ensures { result ≡ survey_as (survey_of (delta_trace s.now)) }
 {
-    answers::survey(delta_decoder::survey(s))
+    Survey::from(delta_decoder::survey(s))
 }
 
 #[unsafe(no_mangle)]
 pub extern "C" fn grundavok_boolean_survey(s: &[u8]) -> Survey
     ensures { result ≡ survey_as (survey_of (bool_trace s.now)) }
 {
-    answers::survey(boolean_decoder::survey(s))
+    Survey::from(boolean_decoder::survey(s))
 }
 
 #[unsafe(no_mangle)]
 pub extern "C" fn grundavok_text_survey(s: &[u8]) -> Survey
     ensures { result ≡ survey_as (survey_of (trace text_e s.now)) }
 {
-    answers::survey(text_decoder::survey(s))
+    Survey::from(text_decoder::survey(s))
 }
 
 #[unsafe(no_mangle)]
@@ -57,7 +57,7 @@ pub extern "C" fn grundavok_rle_salvage(
         values.old values.new present.old present.new
         out.old out.new) result }
 {
-    answers::salvaged(rle_salvage::salvage(typ, s, values, present, out))
+    Salvaged::from(rle_salvage::salvage(typ, s, values, present, out))
 }
 
 #[unsafe(no_mangle)]
@@ -73,7 +73,7 @@ pub extern "C" fn grundavok_delta_salvage(
         values.old values.new present.old present.new
         out.old out.new) result }
 {
-    answers::salvaged(delta_salvage::salvage(typ, s, values, present, out))
+    Salvaged::from(delta_salvage::salvage(typ, s, values, present, out))
 }
 
 #[unsafe(no_mangle)]
@@ -86,7 +86,7 @@ pub extern "C" fn grundavok_boolean_salvage(
     ensures { ToldSalvage (SavedTurns (boolean_type typ) (bool_trace s.now) (bool_bytes (bool_trace s.now).readings)
         values.old values.new out.old out.new) result }
 {
-    answers::salvaged(boolean_salvage::salvage(typ, s, values, out))
+    Salvaged::from(boolean_salvage::salvage(typ, s, values, out))
 }
 
 #[unsafe(no_mangle)]
@@ -102,5 +102,5 @@ pub extern "C" fn grundavok_text_salvage(
         starts.old starts.new lens.old lens.new
         present.old present.new out.old out.new) result }
 {
-    answers::salvaged(text_salvage::salvage(typ, s, starts, lens, present, out))
+    Salvaged::from(text_salvage::salvage(typ, s, starts, lens, present, out))
 }

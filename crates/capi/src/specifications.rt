@@ -4,14 +4,14 @@ ghost use Rattle.column_specification.specs.Key.{key};
 ghost use Rattle.column_specification.specs.Specification.{pack, id_of, type_of, compressed_of};
 ghost use Rattle.capi.specs.Cases.{specification};
 
-use crate::{Specification, answers};
+use crate::Specification;
 use column_specification::{ColumnSpec, ColumnType};
 
 #[unsafe(no_mangle)]
 pub extern "C" fn grundavok_spec_new(id: u32, col_type: u8, deflate: bool) -> Specification
     ensures { result ≡ specification (pack id (type_of col_type) deflate) }
 {
-    answers::packed(ColumnSpec::new(id, ColumnType::from_u8(col_type), deflate))
+    Specification::from(ColumnSpec::new(id, ColumnType::from_u8(col_type), deflate))
 }
 
 #[unsafe(no_mangle)]

@@ -8,15 +8,15 @@ ghost use Rattle.raw_column.specs.Rows.{opened};
 ghost use Rattle.raw_column.specs.Table.{parse};
 ghost use Rattle.capi.specs.Cases.{part_as, layered_as, frame_as};
 
-use crate::{Frame, Layered, Part, answers};
+use crate::{Frame, Layered, Part};
 use counted_table::{CountedColumn, CountedOpened, CountedTable};
-use raw_column::Opened;
+use raw_column::TableAnswer;
 
 #[unsafe(no_mangle)]
-pub extern "C" fn grundavok_read_table(block: &[u8]) -> Opened
+pub extern "C" fn grundavok_read_table(block: &[u8]) -> TableAnswer
     ensures { result ≡ opened (parse block.now) }
 {
-    raw_column::read_table(block)
+    TableAnswer::from(raw_column::read_table(block))
 }
 
 #[unsafe(no_mangle)]
@@ -41,21 +41,21 @@ pub extern "C" fn grundavok_count(
 pub extern "C" fn grundavok_locate(block: &[u8], position: usize) -> Part
     ensures { result ≡ part_as (part_at block.now position) }
 {
-    answers::part(column_part::locate(block, position))
+    Part::from(column_part::locate(block, position))
 }
 
 #[unsafe(no_mangle)]
 pub extern "C" fn grundavok_locate_spec(block: &[u8], spec: u32) -> Part
     ensures { result ≡ part_as (part_for block.now spec) }
 {
-    answers::part(column_part::locate_spec(block, spec))
+    Part::from(column_part::locate_spec(block, spec))
 }
 
 #[unsafe(no_mangle)]
 pub extern "C" fn grundavok_locate_over(corrections: &[u8], first: &[u8], spec: u32) -> Layered
     ensures { result ≡ layered_as (over corrections.now first.now spec) }
 {
-    answers::layered(corrections::locate(corrections, first, spec))
+    Layered::from(corrections::locate(corrections, first, spec))
 }
 
 #[unsafe(no_mangle)]
@@ -68,5 +68,5 @@ pub extern "C" fn grundavok_put_frame(
     ensures value { result ≡ frame_as (frame_of size (framed block.now position size (length out.old))) }
     ensures out_after { out.new ≡ frame_out size (framed block.now position size (length out.old)) out.old }
 {
-    answers::frame(block_frame::put_frame(block, position, size, out))
+    Frame::from(block_frame::put_frame(block, position, size, out))
 }

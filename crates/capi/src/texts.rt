@@ -11,13 +11,13 @@ ghost use Rattle.text_decoder.specs.Slots.{DecodedNames};
 ghost use Rattle.capi.specs.Cases.{counted};
 ghost use Rattle.capi.specs.Told.{Told};
 
-use crate::{Counted, answers};
+use crate::Counted;
 
 #[unsafe(no_mangle)]
 pub extern "C" fn grundavok_text_count(s: &[u8]) -> Counted
     ensures { result ≡ counted (outcome (trace text_e s.now)) }
 {
-    answers::answer(text_decoder::count(s))
+    Counted::from(text_decoder::count(s))
 }
 
 #[unsafe(no_mangle)]
@@ -30,7 +30,7 @@ pub extern "C" fn grundavok_text_decode(
     ensures { Told (DecodedNames (trace text_e s.now) starts.old starts.new
         lens.old lens.new present.old present.new) result }
 {
-    answers::answer(text_decoder::decode(s, starts, lens, present))
+    Counted::from(text_decoder::decode(s, starts, lens, present))
 }
 
 #[unsafe(no_mangle)]
@@ -44,7 +44,7 @@ pub extern "C" fn grundavok_text_encoded_len(
         (sized (column_bytes text_e (name_list bytes.now starts.now lens.now present.now))
         (names_judged bytes.now starts.now lens.now present.now))) }
 {
-    answers::answer(text_encoder::encoded_len(bytes, starts, lens, present))
+    Counted::from(text_encoder::encoded_len(bytes, starts, lens, present))
 }
 
 #[unsafe(no_mangle)]
@@ -60,5 +60,5 @@ pub extern "C" fn grundavok_text_encode(
         (names_judged bytes.now starts.now lens.now present.now)
         out.old out.new) result }
 {
-    answers::answer(text_encoder::encode(bytes, starts, lens, present, out))
+    Counted::from(text_encoder::encode(bytes, starts, lens, present, out))
 }

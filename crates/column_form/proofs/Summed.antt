@@ -6,8 +6,9 @@ use mathlib.Core.Option.{Option, none, some}
 use mathlib.Core.Bool.{Bool, true, false, cond}
 use native.Mathlib.Omega.{arith}
 use lib.IntN.{ℤ, pos, ◌+ℤ◌}
+use Rattle.std.specs.Prelude.{None}
 use Rattle.encoding.specs.Column.{Reading, absent, present, value, trace}
-use Rattle.encoding.specs.Survivors.{number_of, survey_of}
+use Rattle.encoding.specs.Survivors.{number_of, ending_of, survey_of, Surveyed, seen}
 use Rattle.encoding.specs.Walk.{Ending, sound, fault}
 use Rattle.encoding.specs.Writer.{column_bytes}
 use Rattle.encoding.specs.declared.Survey.{Survey}
@@ -38,17 +39,18 @@ all_up z (present d q ∷ rs) e h = go (holds (z +ℤ d)) h (all_up (z +ℤ d) r
         )
     go false h k = let y : ◌≡◌ {A = ℕ} 0 1 = cc in absurd (omega arith)
 
-module _ (s : List ℕ) (r : Survey) (e : r ≡ survey_of (delta_trace s)) where
+module _ (s : List ℕ) (r : Survey) (e : seen r ≡ survey_of (delta_trace s)) where
   -- a survey without a fault: both read soundly
-  sums-sound : r.number ≡ 0 → (delta_trace s).ending ≡ sound
-  sums-sound z = go (delta_trace s).ending (delta-numbered s) (sym (ap (λ (r : Survey). r.number) e) ∙ z)
+  sums-sound : r.fault ≡ None → (delta_trace s).ending ≡ sound
+  sums-sound z =
+      go (delta_trace s).ending (delta-numbered s) (sym (ap (λ (r : Surveyed). r.number) e) ∙ ap (λ x. number_of (ending_of x)) z)
     where
       go : (x : Ending) → Numbered x → number_of x ≡ 0 → x ≡ sound
       go sound h z = refl
       go (fault number place) h z = absurd (omega arith)
 
   -- and what is said of the differences is said of the sums
-  pub form-summed : {f : Form} → r.number ≡ 0 → f ≡ form_in (trace i64_e) (λ rs. column_bytes i64_e (map value rs)) s
+  pub form-summed : {f : Form} → r.fault ≡ None → f ≡ form_in (trace i64_e) (λ rs. column_bytes i64_e (map value rs)) s
       → f ≡ form_in delta_trace (λ rs. delta_bytes (map value rs)) s
   unfolding form_in form_by delta_trace delta_bytes
   form-summed z k =

@@ -9,17 +9,17 @@ ghost use Rattle.own_form.specs.Cases.{form_as};
 ghost use Rattle.own_form.specs.Form.{form_in, form_of};
 
 use own_form::Form;
+use refusal::{Refusal, Why};
 use runs::Values;
 
 // Of a delta column: a sum that leaves i64 is a fault of its own; else its runs are those of its differences.
 fn sums_form(s: &[u8]) -> Form
     ensures { form_as result ≡ form_in delta_trace (λ rs. delta_bytes (map value rs)) s.now }
 {
-    let found = delta_decoder::survey(s);
-    if found.number == 0 {
-        return rle_form::runs_form(s, Values::Differences);
+    match delta_decoder::survey(s).fault {
+        None => rle_form::runs_form(s, Values::Differences),
+        Some(e) => Err(e),
     }
-    Form::Refused(found.number, found.place)
 }
 
 // Whether a column is what our writer gives for the list it reads as, by its type; if not, where it differs first. Its refusals: 17 for a type that no call
@@ -39,5 +39,5 @@ pub fn column_form(typ: u8, s: &[u8]) -> Form
     if typ == 5 {
         return rle_form::runs_form(s, Values::Names);
     }
-    Form::Refused(17, 0)
+    Err(Refusal(Why::NotServed, 0))
 }

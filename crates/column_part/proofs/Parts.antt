@@ -9,9 +9,8 @@ use lib.Dec.{ltb}
 use borrow.Author.Tests.{ltb-true, lt-ltb, le-ltb, eq-eqb, ne_eqb}
 use Rattle.encoding.proofs.Lists.{cond-by}
 use Rattle.raw_column.specs.Table.{Tab, tab, faulty, sum, parse}
-use Rattle.column_part.specs.Part.{start_of, no_part, row_part, part_in, row_of, spec_part_in, part_at, part_for}
-use Rattle.column_part.specs.declared.Part.{Part}
-use Rattle.raw_column.specs.declared.Opened.{Opened}
+use Rattle.column_part.specs.Part.{start_of, no_part, row_part, part_in, row_of, spec_part_in, part_at, part_for, there, nowhere, refused, sought, Part}
+use Rattle.raw_column.specs.declared.TableAnswer.{TableAnswer}
 use Rattle.raw_column.proofs.Opening.{next_of, none_left, ParseOk, parse-ok, sum_to, specs_of, lens_of, Open, rows_long, lens-many}
 
 -- ---- a part lies within its block, whatever the bytes
@@ -48,7 +47,7 @@ pub spec-in : (s : List ℕ) (spec : ℕ) (p : Part) → p ≡ part_for s spec �
 spec-in s spec p e = subst (Within (length s)) (sym e) (spec-within s spec)
 
 -- ---- row_part, of a table that was read
-module _ {s : List ℕ} {o : Opened} (g : Open s o) {i : ℕ} (h : i < o.table.rows) where
+module _ {s : List ℕ} {o : TableAnswer} (g : Open s o) {i : ℕ} (h : i < o.table.rows) where
   pub row-ready : length s < 2 ^ 64
       → (i < o.table.rows) × (o.table.rows ≤ 64) × (start_of (lens_of o) o.start i < 2 ^ 64) ×
       (get_or o.table.starts i 0 ≡ sum (take i (lens_of o)))
@@ -60,7 +59,7 @@ module _ (s : List ℕ) (position : ℕ) where
   unfolding part_at
   part-bad e = rw e
 
-  module _ {o : Opened} (g : Open s o) where
+  module _ {o : TableAnswer} (g : Open s o) where
     pub part-16 : o.table.rows ≤ position → no_part 16 0 ≡ part_at s position
     unfolding part_at
     part-16 h =
@@ -79,7 +78,11 @@ module _ (s : List ℕ) (spec : ℕ) where
   unfolding part_for
   spec-bad e = rw e
 
-  module _ {o : Opened} (g : Open s o) {i : ℕ} (e : i ≡ row_of spec (specs_of o)) where
+  pub sought-bad : {number place : ℕ} → parse s ≡ faulty number place → refused number place ≡ sought s spec
+  unfolding sought
+  sought-bad e = rw e
+
+  module _ {o : TableAnswer} (g : Open s o) {i : ℕ} (e : i ≡ row_of spec (specs_of o)) where
     pub spec-none : o.table.rows ≤ i → no_part 0 0 ≡ part_for s spec
     unfolding part_for
     spec-none h =
@@ -89,6 +92,18 @@ module _ (s : List ℕ) (spec : ℕ) where
     pub spec_at : i < o.table.rows → row_part (specs_of o) (lens_of o) o.start i ≡ part_for s spec
     unfolding part_for
     spec_at h =
+        let b : i < length (specs_of o) = omega (arith, rows_long g) in
+        rw (g.is, ← e, lt-ltb i (length (specs_of o)) b)
+
+    pub sought-none : o.table.rows ≤ i → nowhere ≡ sought s spec
+    unfolding sought
+    sought-none h =
+        let b : length (specs_of o) ≤ i = omega (arith, rows_long g) in
+        rw (g.is, ← e, le-ltb i (length (specs_of o)) b)
+
+    pub sought_at : i < o.table.rows → there (row_part (specs_of o) (lens_of o) o.start i) ≡ sought s spec
+    unfolding sought
+    sought_at h =
         let b : i < length (specs_of o) = omega (arith, rows_long g) in
         rw (g.is, ← e, lt-ltb i (length (specs_of o)) b)
 

@@ -1,9 +1,19 @@
 -- 01, "Table and block": "Each column is handed on as its own part of the block, wherever that begins. Lookup by specification gives the
 -- bytes of the first row with exactly that number, or an empty part; by position the checks are table faults, 16. A refusal gives an empty
 -- part."
-use Rattle.std.specs.Prelude.{ℕ, suc, ◌+◌, List, [], ◌∷◌, cond, length, get_or, take, drop, ltb, eqb}
+use Rattle.std.specs.Prelude.{ℕ, suc, ◌+◌, List, [], ◌∷◌, cond, length, get_or, take, drop, ltb, eqb, Option, Some, None, Result, Ok, Err}
+use Rattle.refusal.specs.Number.{number_of}
+use Rattle.refusal.specs.declared.Refusal.{Refusal}
 use Rattle.raw_column.specs.Table.{Tab, tab, faulty, sum, parse}
-use Rattle.column_part.specs.declared.Part.{Part}
+use Rattle.column_part.specs.declared.Part as code
+
+-- where a column lies in its block, and its specification; or a refusal's number and place, and an empty part
+pub record Part : Type 0 where
+  pub number : ℕ
+  pub place : ℕ
+  pub start : ℕ
+  pub len : ℕ
+  pub spec : ℕ
 
 -- where the column at a position begins in its block, whose data begin at next
 abbrev pub start_of : List ℕ → ℕ → ℕ → ℕ
@@ -35,6 +45,37 @@ part_at s position = part_in position (parse s)
 unfoldable pub part_for : List ℕ → ℕ → Part
 part_for s spec = spec_part_in spec (parse s)
 
+-- what the lookup by specification finds, which tells a block without the row from an empty part
+pub data Sought : Type 0 where
+  there : Part → Sought
+  nowhere : Sought
+  refused : ℕ → ℕ → Sought
+
+abbrev pub sought_in : ℕ → Tab → Sought
+sought_in spec (tab specs lens next) = cond (ltb (row_of spec specs) (length specs)) (there (row_part specs lens next (row_of spec specs))) nowhere
+sought_in spec (faulty number place) = refused number place
+
+unfoldable pub sought : List ℕ → ℕ → Sought
+sought s spec = sought_in spec (parse s)
+
 -- the bytes of a part
 abbrev pub bytes_of : List ℕ → Part → List ℕ
 bytes_of s p = take p.len (drop p.start s)
+
+-- what the code's answers stand for: a part, or the refusal; and one that may be nowhere
+abbrev pub taken : code.Part → Part
+taken p = record { number = 0; place = 0; start = p.start; len = p.len; spec = p.spec }
+
+abbrev pub part_of : Result code.Part Refusal → Part
+part_of (Ok p) = taken p
+part_of (Err e) = no_part (number_of e.0) e.1
+
+abbrev pub found_of : Result (Option code.Part) Refusal → Part
+found_of (Ok (Some p)) = taken p
+found_of (Ok None) = no_part 0 0
+found_of (Err e) = no_part (number_of e.0) e.1
+
+abbrev pub sought_of : Result (Option code.Part) Refusal → Sought
+sought_of (Ok (Some p)) = there (taken p)
+sought_of (Ok None) = nowhere
+sought_of (Err e) = refused (number_of e.0) e.1

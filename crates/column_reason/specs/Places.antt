@@ -1,11 +1,9 @@
 -- The run that the private functions find, as the walk that keeps its runs has it, and what they tell of it. No public promise cites it.
-use Rattle.std.specs.Prelude.{ℕ, ◌≡◌, List, cond, eqb, length}
+use Rattle.std.specs.Prelude.{ℕ, ◌≡◌, List, length}
 use Rattle.std.proofs.Math.Option.{some}
 use Rattle.encoding.specs.Column.{Reading, Spot, spot, run_at}
 use Rattle.encoding.specs.Element.{Element}
-use Rattle.encoding.specs.declared.Survey.{Survey}
 use Rattle.boolean_decoder.specs.Turns.{Turn, turn, turn_at}
-use Rattle.reason.specs.Columns.{Told, because, faultless}
 use Rattle.reason.specs.Reason.{Count, Facts, Reason, holding}
 use Rattle.reason.specs.Runs.{walked, runs, Fallen}
 use Rattle.column_reason.specs.declared.places.RunPlace.{RunPlace}
@@ -22,9 +20,6 @@ turns_at s p flag = let st = turn p.at p.had flag in record { index = p.run; at 
 abbrev pub HoldsTurn : List ℕ → ℕ → RunPlace → Type 0
 HoldsTurn s n p = (flag : ℕ) × (holding (λ (st : Turn). st.had) n 0 (runs (turn_at s) (length s) (turn 0 0 0)) ≡ some (turns_at s p flag))
 
--- the reason of a surveyed fault, of the run at a place with its count and facts; a survey of a sound column has the number 0
-abbrev pub why_of : Survey → RunPlace → Count → Facts → Reason
-why_of r p c x = record { number = r.number; place = r.place; run = p.run; begins = p.at; count = c; index = r.readings; facts = x }
-
-abbrev pub told_by : Survey → RunPlace → Count → Facts → Told
-told_by r p c x = cond (eqb r.number 0) faultless (because (why_of r p c x))
+-- the reason of a fault behind so many readings, of the run at a place with its count and facts
+abbrev pub why_of : ℕ → ℕ → ℕ → RunPlace → Count → Facts → Reason
+why_of number place readings p c x = record { number = number; place = place; run = p.run; begins = p.at; count = c; index = readings; facts = x }

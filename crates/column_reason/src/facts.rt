@@ -1,5 +1,6 @@
 // The count where a run begins, and the facts that make a refusal true.
 ghost use Rattle.std.specs.Prelude.{◌≡◌};
+ghost use Rattle.refusal.specs.Number.{number_of};
 ghost use Rattle.leb128.specs.Got.{got};
 ghost use Rattle.leb128.specs.Read.{u64_at, i64_at};
 ghost use Rattle.encoding.specs.Column.{spot};
@@ -7,8 +8,10 @@ ghost use Rattle.boolean_decoder.specs.Turns.{turn};
 ghost use Rattle.reason.specs.Cases.{count_of, facts_of};
 ghost use Rattle.reason.specs.Reason.{signed_count, unsigned_count, second, asked, named, delta, plain_facts, name_facts, sum_facts, turn_facts};
 
-use leb128::{ParsedI64, ParsedU64, magnitude};
+use crate::places::RunPlace;
+use leb128::magnitude;
 use reason::{Count, Facts};
+use refusal::{Refusal, Why};
 
 // A signed count as it is told: of a negative one its size.
 fn signed_count(c: i64) -> Count
@@ -26,8 +29,8 @@ pub(crate) fn count_at(s: &[u8], at: usize) -> Count
     ensures { count_of result ≡ signed_count (i64_at s.now at) }
 {
     match leb128::leb128_i64(s, at) {
-        ParsedI64::Number(c, _) => signed_count(c),
-        ParsedI64::Refused(_, _) => Count::Unread,
+        Ok((c, _)) => signed_count(c),
+        Err(_) => Count::Unread,
     }
 }
 
@@ -36,8 +39,8 @@ pub(crate) fn turn_count(s: &[u8], at: usize) -> Count
     ensures { count_of result ≡ unsigned_count (u64_at s.now at) }
 {
     match leb128::leb128_u64(s, at) {
-        ParsedU64::Number(c, _) => Count::Plus(c),
-        ParsedU64::Refused(_, _) => Count::Unread,
+        Ok((c, _)) => Count::Plus(c),
+        Err(_) => Count::Unread,
     }
 }
 
@@ -46,8 +49,8 @@ fn second_at(s: &[u8], q: usize) -> u64
     ensures { result ≡ second (u64_at s.now q) }
 {
     match leb128::leb128_u64(s, q) {
-        ParsedU64::Number(c, _) => c,
-        ParsedU64::Refused(_, _) => 0,
+        Ok((c, _)) => c,
+        Err(_) => 0,
     }
 }
 
@@ -70,19 +73,19 @@ fn asked_at(s: &[u8], at: usize) -> u64
     ensures { result ≡ asked s.now (i64_at s.now at) }
 {
     match leb128::leb128_i64(s, at) {
-        ParsedI64::Number(c, q) => asked_by(s, c, q),
-        ParsedI64::Refused(_, _) => 0,
+        Ok((c, q)) => asked_by(s, c, q),
+        Err(_) => 0,
     }
 }
 
-// The facts of an integer column's refusal, in the run at `at`, before which there are `had` readings.
-pub(crate) fn plain_facts(s: &[u8], number: u8, place: usize, at: usize, had: u64) -> Facts
-    ensures { facts_of result ≡ plain_facts s.now number place (spot at had) }
+// The facts of an integer column's refusal, in the run that was found.
+pub(crate) fn plain_facts(s: &[u8], refusal: Refusal, at: RunPlace) -> Facts
+    ensures { facts_of result ≡ plain_facts s.now (number_of refusal.0) refusal.1 (spot at.at at.had) }
 {
-    if number == 5 {
-        return Facts::Passes(had, asked_at(s, at));
+    match refusal.0 {
+        Why::TooMany => Facts::Passes(at.had, asked_at(s, at.at)),
+        _ => Facts::Bytes(reason::number_bytes(s, refusal.1)),
     }
-    Facts::Bytes(reason::number_bytes(s, place))
 }
 
 // Where the number at the place is a name's length that reads, the name is at fault.
@@ -90,22 +93,20 @@ fn named_at(s: &[u8], place: usize) -> Facts
     ensures { facts_of result ≡ named s.now place (u64_at s.now place) }
 {
     match leb128::leb128_u64(s, place) {
-        ParsedU64::Number(n, q) => Facts::Name(n, (s.len() - q) as u64),
-        ParsedU64::Refused(_, _) => Facts::Bytes(reason::number_bytes(s, place)),
+        Ok((n, q)) => Facts::Name(n, (s.len() - q) as u64),
+        Err(_) => Facts::Bytes(reason::number_bytes(s, place)),
     }
 }
 
 // The facts of a text column's refusal: a name can be at fault in 1 and in 20 alone.
-pub(crate) fn name_facts(s: &[u8], number: u8, place: usize, at: usize, had: u64) -> Facts
-    ensures { facts_of result ≡ name_facts s.now number place (spot at had) }
+pub(crate) fn name_facts(s: &[u8], refusal: Refusal, at: RunPlace) -> Facts
+    ensures { facts_of result ≡ name_facts s.now (number_of refusal.0) refusal.1 (spot at.at at.had) }
 {
-    if number == 1 {
-        return named_at(s, place);
+    match refusal.0 {
+        Why::Cut => named_at(s, refusal.1),
+        Why::NotUtf8 => named_at(s, refusal.1),
+        _ => plain_facts(s, refusal, at),
     }
-    if number == 20 {
-        return named_at(s, place);
-    }
-    plain_facts(s, number, place, at, had)
 }
 
 // The delta at a position, 0 where none is read.
@@ -113,27 +114,27 @@ fn delta_at(s: &[u8], place: usize) -> i64
     ensures { result ≡ delta (i64_at s.now place) }
 {
     match leb128::leb128_i64(s, place) {
-        ParsedI64::Number(d, _) => d,
-        ParsedI64::Refused(_, _) => 0,
+        Ok((d, _)) => d,
+        Err(_) => 0,
     }
 }
 
 // The facts of a delta column's refusal.
-pub(crate) fn sum_facts(s: &[u8], number: u8, place: usize, at: usize, had: u64) -> Facts
-    ensures { facts_of result ≡ sum_facts s.now number place (spot at had) }
+pub(crate) fn sum_facts(s: &[u8], refusal: Refusal, at: RunPlace) -> Facts
+    ensures { facts_of result ≡ sum_facts s.now (number_of refusal.0) refusal.1 (spot at.at at.had) }
 {
-    if number == 6 {
-        return Facts::Sum(delta_decoder::last_sum(s), delta_at(s, place));
+    match refusal.0 {
+        Why::SumOutside => Facts::Sum(delta_decoder::last_sum(s), delta_at(s, refusal.1)),
+        _ => plain_facts(s, refusal, at),
     }
-    plain_facts(s, number, place, at, had)
 }
 
-// The facts of a boolean column's refusal, of the count at `at`.
-pub(crate) fn turn_facts(s: &[u8], number: u8, place: usize, at: usize, had: u64) -> Facts
-    ensures { facts_of result ≡ turn_facts s.now number place (turn at had 0) }
+// The facts of a boolean column's refusal, of the count that was found.
+pub(crate) fn turn_facts(s: &[u8], refusal: Refusal, at: RunPlace) -> Facts
+    ensures { facts_of result ≡ turn_facts s.now (number_of refusal.0) refusal.1 (turn at.at at.had 0) }
 {
-    if number == 5 {
-        return Facts::Passes(had, second_at(s, at));
+    match refusal.0 {
+        Why::TooMany => Facts::Passes(at.had, second_at(s, at.at)),
+        _ => Facts::Bytes(reason::number_bytes(s, refusal.1)),
     }
-    Facts::Bytes(reason::number_bytes(s, place))
 }

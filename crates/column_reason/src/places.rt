@@ -7,11 +7,10 @@ ghost use Rattle.runs.specs.Values.{element_of};
 ghost use Rattle.reason.specs.Reason.{holding, spots_of};
 ghost use Rattle.column_reason.specs.Places.{stands_at, HoldsTurn};
 
-use leb128::ParsedU64;
-use runs::{RunEnd, Values};
+use runs::Values;
 
 // A run by its index, the byte where it begins, and how many readings come before it.
-#[derive(Clone, Copy)]
+#[derive(Clone, Copy, Debug, PartialEq, Eq)]
 pub(crate) struct RunPlace {
     pub(crate) run: u64,
     pub(crate) at: usize,
@@ -28,7 +27,7 @@ pub(crate) fn run_of(s: &[u8], values: Values, n: u64) -> RunPlace
     let mut had: u64 = 0;
     loop {
         match runs::run_end(s, values, at, had) {
-            RunEnd::On(next, total) => {
+            Ok(Some((next, total))) => {
                 if n < total {
                     return RunPlace { run, at, had };
                 }
@@ -36,12 +35,8 @@ pub(crate) fn run_of(s: &[u8], values: Values, n: u64) -> RunPlace
                 at = next;
                 had = total;
             }
-            RunEnd::Over => {
-                return RunPlace { run, at, had };
-            }
-            RunEnd::Off(_, _) => {
-                return RunPlace { run, at, had };
-            }
+            Ok(None) => return RunPlace { run, at, had },
+            Err(_) => return RunPlace { run, at, had },
         }
     }
 }
@@ -56,7 +51,7 @@ pub(crate) fn turn_of(s: &[u8], n: u64) -> RunPlace
     let mut had: u64 = 0;
     while at < s.len() {
         match leb128::leb128_u64(s, at) {
-            ParsedU64::Number(c, next) => {
+            Ok((c, next)) => {
                 if n - had < c {
                     return RunPlace { run: turn, at, had };
                 }
@@ -64,9 +59,7 @@ pub(crate) fn turn_of(s: &[u8], n: u64) -> RunPlace
                 at = next;
                 had += c;
             }
-            ParsedU64::Refused(_, _) => {
-                return RunPlace { run: turn, at, had };
-            }
+            Err(_) => return RunPlace { run: turn, at, had },
         }
     }
     RunPlace { run: turn, at, had }

@@ -7,30 +7,26 @@ ghost use Rattle.column_specification.specs.TypeNumber.{type_number};
 ghost use Rattle.column_specification.specs.Specification.{pack, id_of, type_of, compressed_of};
 ghost use Rattle.column_specification.specs.Key.{key};
 
-#[derive(Clone, Copy)]
+use refusal::{Refusal, Why};
+
+// The types, each with its number.
+#[derive(Clone, Copy, Debug, PartialEq, Eq)]
 pub enum ColumnType {
-    Group,
-    Actor,
-    Integer,
-    DeltaInteger,
-    Boolean,
-    String,
-    ValueMetadata,
-    Value,
+    Group = 0,
+    Actor = 1,
+    Integer = 2,
+    DeltaInteger = 3,
+    Boolean = 4,
+    String = 5,
+    ValueMetadata = 6,
+    Value = 7,
 }
 
-#[derive(Clone, Copy)]
+#[derive(Clone, Copy, Debug, PartialEq, Eq)]
 pub struct ColumnSpec(pub u32);
 
-// A specification, or a refusal's number and place.
-#[derive(Clone, Copy)]
-pub enum Packed {
-    Spec(ColumnSpec),
-    Refused(u8, usize),
-}
-
 impl ColumnType {
-    // The type that the low three bits of a byte name.
+    // The type that the low three bits of a byte name. It is no `From`: bytes that differ in the other bits name one type.
     pub fn from_u8(val: u8) -> ColumnType
         ensures { type_number result ≡ type_of val }
     {
@@ -49,33 +45,20 @@ impl ColumnType {
     pub fn as_u8(self) -> u8
         ensures { result ≡ type_number self }
     {
-        match self {
-            ColumnType::Group => 0,
-            ColumnType::Actor => 1,
-            ColumnType::Integer => 2,
-            ColumnType::DeltaInteger => 3,
-            ColumnType::Boolean => 4,
-            ColumnType::String => 5,
-            ColumnType::ValueMetadata => 6,
-            ColumnType::Value => 7,
-        }
+        self as u8
     }
 }
 
 impl ColumnSpec {
     // Every id below 2^28 is kept whole; the Rust loses ids from 16 up where the compressed bit is not set.
-    pub fn new(id: u32, col_type: ColumnType, deflate: bool) -> Packed
+    pub fn new(id: u32, col_type: ColumnType, deflate: bool) -> Result<ColumnSpec, Refusal>
         ensures { packing_of result ≡ pack id (type_number col_type) deflate }
     {
         if 268435456 <= id {
-            return Packed::Refused(19, 0);
+            return Err(Refusal(Why::IdTooLarge, 0));
         }
-        let mut raw = id * 16;
-        raw += col_type.as_u8() as u32;
-        if deflate {
-            raw += 8;
-        }
-        Packed::Spec(ColumnSpec(raw))
+        let raw = id * 16 + u32::from(deflate) * 8 + u32::from(col_type.as_u8());
+        Ok(ColumnSpec(raw))
     }
 
     pub fn col_type(self) -> ColumnType

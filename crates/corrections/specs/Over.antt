@@ -3,8 +3,7 @@
 -- A fault in either table is refused with an empty part and the answer says which block, the corrections judged first."
 use Rattle.std.specs.Prelude.{ℕ, List, [], Bool, cond, length, ltb}
 use Rattle.raw_column.specs.Table.{Tab, tab, faulty, parse}
-use Rattle.column_part.specs.Part.{no_part, row_part, row_of, bytes_of}
-use Rattle.column_part.specs.declared.Part.{Part}
+use Rattle.column_part.specs.Part.{no_part, row_part, row_of, bytes_of, Part}
 
 -- "the answer says which block": a part of the corrections or of the first scan, or the refusal of its table; or neither has the row
 pub data Over : Type 0 where

@@ -6,35 +6,30 @@ ghost use Rattle.corrections.specs.Cases.{layered_of};
 ghost use Rattle.corrections.specs.Over.{over, bytes_over};
 
 use column_part::{Part, locate_spec};
+use refusal::Refusal;
 
-// The part in the corrections or in the first scan, or the refusal of that block's table; or that neither has the row.
-#[derive(Clone, Copy)]
-pub enum Layered {
-    Corrections(Part),
-    First(Part),
-    Neither,
+// What is of the corrections or of the first scan: a column's part there, or the refusal of that block's table.
+#[derive(Clone, Copy, Debug, PartialEq, Eq)]
+pub enum Layered<T> {
+    Corrections(T),
+    First(T),
 }
 
-// Where the column of exactly this specification lies. The corrections are judged first; the first scan is judged even where they have the row.
-pub fn locate(corrections: &[u8], first: &[u8], spec: u32) -> Layered
+// Where the column of exactly this specification lies, if one of the two has it. The corrections are judged first; the first scan is judged even where
+// they have the row.
+pub fn locate(
+    corrections: &[u8],
+    first: &[u8],
+    spec: u32,
+) -> Result<Option<Layered<Part>>, Layered<Refusal>>
     ensures { layered_of result ≡ over corrections.now first.now spec }
 {
-    let c = locate_spec(corrections, spec);
-    if c.number != 0 {
-        return Layered::Corrections(c);
-    }
-    let f = locate_spec(first, spec);
-    if f.number != 0 {
-        return Layered::First(f);
-    }
-    // A column begins behind its block's table, so a part that begins at 0 is no row's: a row of length 0 is told from none.
-    if c.start != 0 {
-        return Layered::Corrections(c);
-    }
-    if f.start == 0 {
-        return Layered::Neither;
-    }
-    Layered::First(f)
+    let c = locate_spec(corrections, spec).map_err(Layered::Corrections)?;
+    let f = locate_spec(first, spec).map_err(Layered::First)?;
+    Ok(match c {
+        Some(part) => Some(Layered::Corrections(part)),
+        None => f.map(Layered::First),
+    })
 }
 
 // The column itself, as a part of whichever block holds it; empty where neither has the row and where a table is refused.
@@ -42,16 +37,8 @@ pub fn bytes<'a>(corrections: &'a [u8], first: &'a [u8], spec: u32) -> &'a [u8]
     ensures { result.now ≡ bytes_over corrections.now first.now spec }
 {
     match locate(corrections, first, spec) {
-        Layered::Corrections(p) => {
-            let a = p.start;
-            let e = a + p.len;
-            &corrections[a..e]
-        }
-        Layered::First(p) => {
-            let a = p.start;
-            let e = a + p.len;
-            &first[a..e]
-        }
-        Layered::Neither => &first[0..0],
+        Ok(Some(Layered::Corrections(part))) => part.bytes(corrections),
+        Ok(Some(Layered::First(part))) => part.bytes(first),
+        _ => &first[..0],
     }
 }

@@ -1,8 +1,8 @@
 -- What an answer of the code stands for.
+use Rattle.std.specs.Prelude.{ℕ, Result, Ok, Err}
 use Rattle.count_place.specs.Place as spec
-use Rattle.count_place.specs.declared.Place.{Place}
-use Rattle.count_place.specs.declared.Place.TheVariants as place
+use Rattle.count_place.specs.declared.Differs.{Differs}
 
-abbrev pub place_of : Place → spec.Place
-place_of (place.Behind next) = spec.behind next
-place_of (place.Differs at) = spec.differs at
+abbrev pub place_of : Result ℕ Differs → spec.Place
+place_of (Ok next) = spec.behind next
+place_of (Err e) = spec.differs e.0

@@ -8,12 +8,12 @@ ghost use Rattle.count_place.specs.Place.{standing};
 
 use leb128::magnitude;
 
-// The position behind an encoding that stands there; or the place of its first byte that does not.
-#[derive(Clone, Copy)]
-pub enum Place {
-    Behind(usize),
-    Differs(usize),
-}
+// The place of the first byte of an encoding that does not stand there.
+#[derive(Clone, Copy, Debug, PartialEq, Eq)]
+pub struct Differs(pub usize);
+
+// The position behind an encoding that stands there.
+pub type Place = Result<usize, Differs>;
 
 // One byte.
 fn compare_byte(s: &[u8], at: usize, b: u8) -> Place
@@ -21,10 +21,10 @@ fn compare_byte(s: &[u8], at: usize, b: u8) -> Place
 {
     if at < s.len() {
         if s[at] == b {
-            return Place::Behind(at + 1);
+            return Ok(at + 1);
         }
     }
-    Place::Differs(at)
+    Err(Differs(at))
 }
 
 // The first byte of the encoding of v: its low seven bits, complemented in a negative number, with bit 7 where more follows.
@@ -45,15 +45,8 @@ fn compare_encoded(s: &[u8], at: usize, limit: u64, neg: bool, v: u64) -> Place
     let mut w = v;
     let mut i = at;
     while limit <= w {
-        match compare_byte(s, i, first_byte(limit, neg, w)) {
-            Place::Behind(next) => {
-                w = w / 128;
-                i = next;
-            }
-            Place::Differs(place) => {
-                return Place::Differs(place);
-            }
-        }
+        i = compare_byte(s, i, first_byte(limit, neg, w))?;
+        w /= 128;
     }
     compare_byte(s, i, first_byte(limit, neg, w))
 }

@@ -12,9 +12,8 @@ use Rattle.leb128.specs.Answer.{Answer, done, refused}
 use Rattle.column_specification.specs.Specification.{type_of}
 use Rattle.raw_column.specs.Table.{Tab, faulty}
 use Rattle.raw_column.specs.Rows.{opened}
-use Rattle.raw_column.specs.declared.Opened.{Opened}
-use Rattle.column_part.specs.Part.{part_in, part_at, bytes_of}
-use Rattle.column_part.specs.declared.Part.{Part}
+use Rattle.raw_column.specs.declared.TableAnswer.{TableAnswer}
+use Rattle.column_part.specs.Part.{part_in, part_at, bytes_of, Part}
 use Rattle.counted_table.specs.Counts.{stored_at, lent_tab, served, count_of, or_counted, row_count}
 use Rattle.counted_table.specs.Counts.{count_part, count_in, is_counted, not_counted, counted_as, counted}
 use Rattle.counted_table.specs.declared.CountedTable.{CountedTable}
@@ -42,7 +41,7 @@ module _ (t : ℕ) (column : List ℕ) where
     pub count-read : o ≡ none → count_of t column ≡ row_count t o column
     count-read e = rw (is-served, e)
 
-module _ (lent : CountedTable) (s : List ℕ) (position : ℕ) {o : Opened} (e : o ≡ opened (lent_tab lent s)) where
+module _ (lent : CountedTable) (s : List ℕ) (position : ℕ) {o : TableAnswer} (e : o ≡ opened (lent_tab lent s)) where
   -- table faults and 25
   pub count-unlent : (o.number ≡ 0 → ⊥) → not_counted lent o.number o.place ≡ counted lent s position
   unfolding counted count_in
@@ -81,7 +80,7 @@ module _ (lent : CountedTable) (s : List ℕ) (position : ℕ) {o : Opened} (e :
       pub count-given : {n : ℕ} → done n ≡ row_count t w (take (till - p.start) (drop p.start s))
           → is_counted lent o.table position n ≡ counted lent s position
       count-given {n} h =
-          ap (λ (x : Opened). is_counted lent x.table position n) e ∙ is-counted (done n) (row_is ∙ sym h)
+          ap (λ (x : TableAnswer). is_counted lent x.table position n) e ∙ is-counted (done n) (row_is ∙ sym h)
 
       pub count-refused : {number place : ℕ} → refused number place ≡ row_count t w (take (till - p.start) (drop p.start s))
           → not_counted lent number place ≡ counted lent s position

@@ -19,11 +19,10 @@ use Rattle.text.specs.Given.{name_list}
 use Rattle.raw_column.specs.Table.{parse}
 use Rattle.splice.specs.Kind.{Kind}
 use Rattle.splice.specs.Kinds.{integer, delta, boolean, text}
-use Rattle.splice.specs.Edit.{Edited, given_optional, given_boolean, given_text, edit_in, edited, answered, slots_left, out_left}
+use Rattle.splice.specs.Edit.{Edited, given_optional, given_boolean, given_text, edit_in, edited, answered, slots_left, out_left, Spliced}
 use Rattle.splice.specs.Contract.{slot_in, flag_in, itself, starts_in, length_in, OptionalSpliced, BooleanSpliced, TextSpliced, optional_edit, boolean_edit, text_edit}
 use Rattle.splice.specs.Lent.{Lent}
 use Rattle.splice.specs.declared.End.{End}
-use Rattle.splice.specs.declared.Spliced.{Spliced}
 use Rattle.splice.proofs.Numbered.{SomeStop, edited-some, optional-some, boolean-some, text-some, integer-numbered, text-numbered}
 use Rattle.boolean_decoder.proofs.Faults.{boolean-numbered}
 use Rattle.splice.proofs.Demand3.{DemandThree, OptionalCall, optional_says, optional_judged, optional-demand-3, BooleanCall, boolean_judged, boolean-demand-3}

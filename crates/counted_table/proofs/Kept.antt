@@ -20,9 +20,7 @@ use Rattle.raw_column.specs.Table.{Tab, tab, faulty, parse}
 use Rattle.raw_column.specs.Rows.{pad, table_of, opened}
 use Rattle.raw_column.specs.declared.Table.{Table}
 use Rattle.raw_column.proofs.Opening.{ParseOk, parse-ok}
-use Rattle.column_part.specs.Part.{no_part, row_part, part_in, part_at, bytes_of}
-use Rattle.column_part.specs.declared.Part.{Part}
-use Rattle.column_part.specs.Part.{start_of}
+use Rattle.column_part.specs.Part.{no_part, row_part, part_in, part_at, bytes_of, Part, start_of}
 use Rattle.slots.specs.Splice.{spliced}
 use Rattle.splice.specs.Kind.{Kind}
 use Rattle.splice.specs.Edit.{Edited, stop, late, accepted, end_in, serves, edit_in, edited, readings_of, out_left}

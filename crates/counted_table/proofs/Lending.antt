@@ -9,19 +9,18 @@ use borrow.Author.Tests.{eq-eqb, ne_eqb}
 use Rattle.leb128.specs.Answer.{Answer, refused}
 use Rattle.raw_column.specs.Table.{Tab, tab, faulty, parse}
 use Rattle.raw_column.specs.Rows.{table_of, opened}
-use Rattle.raw_column.specs.declared.Opened.{Opened}
+use Rattle.raw_column.specs.declared.TableAnswer.{TableAnswer}
 use Rattle.raw_column.proofs.Opening.{ParseOk, parse-ok, open-bad, open-good, specs_of, lens_of}
 use Rattle.splice.specs.Kind.{Kind}
-use Rattle.splice.specs.Edit.{Edited, stop, late, accepted, edit_in, edited, answered}
+use Rattle.splice.specs.Edit.{Edited, stop, late, accepted, edit_in, edited, answered, Spliced}
 use Rattle.splice.specs.declared.End.{End}
-use Rattle.splice.specs.declared.Spliced.{Spliced}
 use Rattle.splice.proofs.Numbered.{SomeStop}
 use Rattle.counted_table.specs.Counts.{stored, fits, lent_in, lent_tab}
 use Rattle.counted_table.specs.Calls.{unspliced, spliced_as, spliced_by}
 use Rattle.counted_table.specs.declared.CountedTable.{CountedTable}
 
 -- ---- what was read
-module _ (lent : CountedTable) (s : List ℕ) {o : Opened} (e : o ≡ opened (parse s)) where
+module _ (lent : CountedTable) (s : List ℕ) {o : TableAnswer} (e : o ≡ opened (parse s)) where
   -- a table that is refused by itself
   pub lent-bad : (o.number ≡ 0 → ⊥) → o ≡ opened (lent_tab lent s)
   unfolding lent_tab
@@ -29,7 +28,7 @@ module _ (lent : CountedTable) (s : List ℕ) {o : Opened} (e : o ≡ opened (pa
 
   module _ (z : o.number ≡ 0) where
     rows_are : o.table ≡ table_of (specs_of o) (lens_of o)
-    rows_are = ap (λ (x : Opened). x.table) e ∙ ap (λ (t : Tab). (opened t).table) (open-good s e z).is
+    rows_are = ap (λ (x : TableAnswer). x.table) e ∙ ap (λ (t : Tab). (opened t).table) (open-good s e z).is
 
     -- 25
     pub lent_other : false ≡ fits lent.table o.table → opened (faulty 25 0) ≡ opened (lent_tab lent s)
@@ -51,13 +50,13 @@ module _ (lent : CountedTable) (s : List ℕ) {o : Opened} (e : o ≡ opened (pa
     few-rows = (open-good s e z).small
 
 -- ---- what that says to callers
-module _ (lent : CountedTable) (s : List ℕ) {o : Opened} (e : o ≡ opened (lent_tab lent s)) where
+module _ (lent : CountedTable) (s : List ℕ) {o : TableAnswer} (e : o ≡ opened (lent_tab lent s)) where
   pub lent-faulty : (o.number ≡ 0 → ⊥) → lent_tab lent s ≡ faulty o.number o.place
   lent-faulty h = go (lent_tab lent s) e
     where
       go : (t : Tab) → o ≡ opened t → t ≡ faulty o.number o.place
-      go (tab specs lens next) f = absurd (h (ap (λ (x : Opened). x.number) f))
-      go (faulty number place) f = sym (ap (λ (x : Opened). faulty x.number x.place) f)
+      go (tab specs lens next) f = absurd (h (ap (λ (x : TableAnswer). x.number) f))
+      go (faulty number place) f = sym (ap (λ (x : TableAnswer). faulty x.number x.place) f)
 
   pub lent-whole : o.number ≡ 0 → lent_tab lent s ≡ parse s
   unfolding lent_tab
@@ -69,7 +68,7 @@ module _ (lent : CountedTable) (s : List ℕ) {o : Opened} (e : o ≡ opened (le
         where
           by : (b : Bool) → o ≡ opened (cond b (tab specs lens next) (faulty 25 0)) → cond b (tab specs lens next) (faulty 25 0) ≡ tab specs lens next
           by true g = refl
-          by false g = let y : ◌≡◌ {A = ℕ} 25 0 = sym (ap (λ (x : Opened). x.number) g) ∙ z in absurd (omega (arith, y))
+          by false g = let y : ◌≡◌ {A = ℕ} 25 0 = sym (ap (λ (x : TableAnswer). x.number) g) ∙ z in absurd (omega (arith, y))
 
   pub lent-table : o.number ≡ 0 → o ≡ opened (parse s)
   lent-table z = e ∙ ap opened (lent-whole z)
@@ -79,7 +78,7 @@ module _ (lent : CountedTable) (s : List ℕ) {o : Opened} (e : o ≡ opened (le
 
 -- ---- edits: refused before their own checks, or as they are without a lent table
 module _ {A : Type 0} (K : Kind A) (lent : CountedTable) (s : List ℕ) (position start : ℕ) (end : End) (given : Answer) (new : List A) (slots room : ℕ)
-    {o : Opened} (e : o ≡ opened (lent_tab lent s)) where
+    {o : TableAnswer} (e : o ≡ opened (lent_tab lent s)) where
   abbrev lent_edit : Edited A
   lent_edit = edit_in K s position start end given new slots room (lent_tab lent s)
 

@@ -8,12 +8,11 @@ use Rattle.encoding.specs.Given.{slot_list}
 use Rattle.encoding.proofs.Faults.{Numbered}
 use Rattle.text.specs.Given.{name_list}
 use Rattle.raw_column.specs.Rows.{opened}
-use Rattle.raw_column.specs.declared.Opened.{Opened}
+use Rattle.raw_column.specs.declared.TableAnswer.{TableAnswer}
 use Rattle.splice.specs.Kind.{Kind}
-use Rattle.splice.specs.Edit.{Edited, given_optional, given_boolean, given_text, answered, slots_left, out_left}
+use Rattle.splice.specs.Edit.{Edited, given_optional, given_boolean, given_text, answered, slots_left, out_left, Spliced}
 use Rattle.splice.specs.Contract.{slot_in, flag_in, itself, starts_in, length_in, OptionalSpliced, BooleanSpliced, TextSpliced, optional_edit, boolean_edit, text_edit}
 use Rattle.splice.specs.declared.End.{End}
-use Rattle.splice.specs.declared.Spliced.{Spliced}
 use Rattle.splice.proofs.Numbered.{SomeStop, edited-some, optional-some, boolean-some, text-some}
 use Rattle.counted_table.specs.Counts.{lent_tab}
 use Rattle.counted_table.specs.Calls.{unspliced, spliced_as, spliced_by, OptionalCounted, BooleanCounted, TextCounted}
@@ -45,7 +44,7 @@ text-few {K = K} {s = s} {position = position} {start = start} {end = end} {byte
     few-answered K (text_edit K s position start end bytes newStarts newLens newFlags (length a) (length l) (length p) (length out)) c.answer
 
 module _ {A : Type 0} (K : Kind (Option A)) (numbered : (c : List ℕ) → Numbered (K.reads c).ending) (nought : A) (s : List ℕ) (lent : CountedTable)
-    (position start : ℕ) (end : End) (new : List A) (flags : List ℕ) (v : List A) (p out : List ℕ) {o : Opened} (e : o ≡ opened (lent_tab lent s)) where
+    (position start : ℕ) (end : End) (new : List A) (flags : List ℕ) (v : List A) (p out : List ℕ) {o : TableAnswer} (e : o ≡ opened (lent_tab lent s)) where
   pub optional-refused : (o.number ≡ 0 → ⊥) → {a : CountedSpliced} → a ≡ unspliced lent o.number o.place
       → OptionalCounted K nought s lent position start end new flags v v p p out out a
   optional-refused h {a} q =
@@ -74,7 +73,7 @@ module _ {A : Type 0} (K : Kind (Option A)) (numbered : (c : List ℕ) → Numbe
       }
 
 module _ (K : Kind ℕ) (numbered : (c : List ℕ) → Numbered (K.reads c).ending) (s : List ℕ) (lent : CountedTable) (position start : ℕ) (end : End)
-    (new v out : List ℕ) {o : Opened} (e : o ≡ opened (lent_tab lent s)) where
+    (new v out : List ℕ) {o : TableAnswer} (e : o ≡ opened (lent_tab lent s)) where
   pub boolean-refused : (o.number ≡ 0 → ⊥) → {a : CountedSpliced} → a ≡ unspliced lent o.number o.place
       → BooleanCounted K s lent position start end new v v out out a
   boolean-refused h {a} q =
@@ -97,7 +96,7 @@ module _ (K : Kind ℕ) (numbered : (c : List ℕ) → Numbered (K.reads c).endi
       }
 
 module _ (K : Kind (Option (List ℕ))) (numbered : (c : List ℕ) → Numbered (K.reads c).ending) (s : List ℕ) (lent : CountedTable) (position start : ℕ)
-    (end : End) (bytes newStarts newLens newFlags a l p out : List ℕ) {o : Opened} (e : o ≡ opened (lent_tab lent s)) where
+    (end : End) (bytes newStarts newLens newFlags a l p out : List ℕ) {o : TableAnswer} (e : o ≡ opened (lent_tab lent s)) where
   abbrev Name : Type 0
   Name = Option (List ℕ)
 

@@ -7,10 +7,9 @@ use Rattle.text.specs.Given.{name_list}
 use Rattle.raw_column.specs.Table.{parse}
 use Rattle.raw_column.specs.Rows.{opened}
 use Rattle.splice.specs.Kind.{Kind}
-use Rattle.splice.specs.Edit.{Edited, stop, late, accepted, given_optional, given_boolean, given_text, edit_in, readings_of, slots_left, out_left}
+use Rattle.splice.specs.Edit.{Edited, stop, late, accepted, given_optional, given_boolean, given_text, edit_in, readings_of, slots_left, out_left, Spliced}
 use Rattle.splice.specs.Contract.{slot_in, flag_in, itself, starts_in, length_in}
 use Rattle.splice.specs.declared.End.{End}
-use Rattle.splice.specs.declared.Spliced.{Spliced}
 use Rattle.counted_table.specs.Counts.{stored, lent_tab}
 use Rattle.counted_table.specs.declared.CountedTable.{CountedTable}
 use Rattle.counted_table.specs.declared.edits.CountedSpliced.{CountedSpliced}

@@ -14,8 +14,7 @@ use Rattle.text.specs.Text.{text_e}
 use Rattle.raw_column.specs.Table.{Tab, tab, faulty, parse}
 use Rattle.raw_column.specs.Rows.{pad, table_of, opened}
 use Rattle.raw_column.specs.declared.Table.{Table}
-use Rattle.column_part.specs.Part.{part_in, bytes_of}
-use Rattle.column_part.specs.declared.Part.{Part}
+use Rattle.column_part.specs.Part.{part_in, bytes_of, Part}
 use Rattle.counted_table.specs.declared.CountedTable.{CountedTable}
 use Rattle.counted_table.specs.declared.CountedOpened.{CountedOpened}
 use Rattle.counted_table.specs.declared.CountedColumn.{CountedColumn}

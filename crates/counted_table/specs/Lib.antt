@@ -1,4 +1,3 @@
 pub mod Calls
-pub mod Cases
 pub mod Counts
 pub mod Reached

@@ -1,9 +1,12 @@
 // The edits, lent the table of their block and giving the new one: its counts as lent but for the edited column's.
 ghost use Rattle.std.specs.Prelude.{◌≡◌, pos, ◌≤◌};
+ghost use Rattle.refusal.specs.Number.{number_of};
+ghost use Rattle.splice.specs.Edit.{spliced_of};
 ghost use Rattle.splice.specs.Kinds.{integer, delta, boolean, text};
 ghost use Rattle.counted_table.specs.Calls.{unspliced, spliced_by, OptionalCounted, BooleanCounted, TextCounted};
 
 use crate::{CountedTable, open_lent, store};
+use refusal::Refusal;
 use splice::{End, Spliced};
 
 // The new block's length and its table, the new column's count stored; or a refusal's number and place, and the table as it was lent.
@@ -16,11 +19,12 @@ pub struct CountedSpliced {
     pub table: CountedTable,
 }
 
-fn refused(lent: CountedTable, number: u8, place: usize) -> CountedSpliced
-    ensures { result ≡ unspliced lent number place }
+fn refused(lent: CountedTable, refusal: Refusal) -> CountedSpliced
+    ensures { result ≡ unspliced lent (number_of refusal.0) refusal.1 }
 {
+    let Refusal(why, place) = refusal;
     CountedSpliced {
-        number: number,
+        number: u8::from(why),
         place: place,
         len: 0,
         table: lent,
@@ -28,20 +32,22 @@ fn refused(lent: CountedTable, number: u8, place: usize) -> CountedSpliced
 }
 
 // What an edit answered, with the count of its column stored.
-fn answer(lent: CountedTable, position: usize, r: Spliced) -> CountedSpliced
-    requires { r.table.rows ≤ 64 }
-    ensures { result ≡ spliced_by lent position r }
+fn answer(lent: CountedTable, position: usize, r: Result<Spliced, Refusal>) -> CountedSpliced
+    requires { (spliced_of r).table.rows ≤ 64 }
+    ensures { result ≡ spliced_by lent position (spliced_of r) }
 {
-    if r.number != 0 {
-        return refused(lent, r.number, r.place);
-    }
-    let t = r.table;
-    let c = store(lent, t, position, r.readings as u64);
-    CountedSpliced {
-        number: 0,
-        place: 0,
-        len: r.len,
-        table: c,
+    match r {
+        Ok(s) => {
+            let t = s.table;
+            let c = store(lent, t, position, s.readings as u64);
+            CountedSpliced {
+                number: 0,
+                place: 0,
+                len: s.len,
+                table: c,
+            }
+        }
+        Err(refusal) => refused(lent, refusal),
     }
 }
 
@@ -61,9 +67,9 @@ pub fn splice_integer(
     ensures { OptionalCounted integer 0 block.now lent position start end new.now new_present.now
         values.old values.new present.old present.new out.old out.new result }
 {
-    let o = open_lent(block, lent);
-    if o.number != 0 {
-        return refused(lent, o.number, o.place);
+    match open_lent(block, lent) {
+        Ok(_) => {}
+        Err(refusal) => return refused(lent, refusal),
     }
     let r = rle_range::splice_integer(
         block,
@@ -95,9 +101,9 @@ pub fn splice_delta(
     ensures { OptionalCounted delta (pos 0) block.now lent position start end new.now new_present.now
         values.old values.new present.old present.new out.old out.new result }
 {
-    let o = open_lent(block, lent);
-    if o.number != 0 {
-        return refused(lent, o.number, o.place);
+    match open_lent(block, lent) {
+        Ok(_) => {}
+        Err(refusal) => return refused(lent, refusal),
     }
     let r = delta_range::splice_delta(
         block,
@@ -127,9 +133,9 @@ pub fn splice_boolean(
     ensures { BooleanCounted boolean block.now lent position start end new.now
         values.old values.new out.old out.new result }
 {
-    let o = open_lent(block, lent);
-    if o.number != 0 {
-        return refused(lent, o.number, o.place);
+    match open_lent(block, lent) {
+        Ok(_) => {}
+        Err(refusal) => return refused(lent, refusal),
     }
     let r = boolean_range::splice_boolean(block, position, start, end, new, values, out);
     answer(lent, position, r)
@@ -155,9 +161,9 @@ pub fn splice_text(
         new_lens.now new_present.now starts.old starts.new lens.old lens.new
         present.old present.new out.old out.new result }
 {
-    let o = open_lent(block, lent);
-    if o.number != 0 {
-        return refused(lent, o.number, o.place);
+    match open_lent(block, lent) {
+        Ok(_) => {}
+        Err(refusal) => return refused(lent, refusal),
     }
     let r = text_encoder::range::splice_text(
         block,

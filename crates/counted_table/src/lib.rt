@@ -2,16 +2,17 @@
 #![tactic(auto)]
 
 ghost use Rattle.std.specs.Prelude.{◌≡◌, ◌-◌, ◌≤◌, ◌<◌, length, take, drop};
-ghost use Rattle.encoding.specs.Cases.{answer_of};
-ghost use Rattle.raw_column.specs.Rows.{opened};
-ghost use Rattle.raw_column.specs.Table.{faulty, parse};
-ghost use Rattle.counted_table.specs.Cases.{stored_of};
+ghost use Rattle.encoding.specs.Cases.{answer_of, maybe_of};
+ghost use Rattle.raw_column.specs.Rows.{opened, opened_of};
+ghost use Rattle.raw_column.specs.Table.{parse};
+ghost use Rattle.refusal.specs.Number.{number_of};
 ghost use Rattle.counted_table.specs.Counts.{counted_opened, stored_at, stored, fits, lent_tab, count_of, row_count, not_counted, is_counted, counted};
 
 use column_part::locate;
 use column_specification::ColumnSpec;
 use encoding::Answer;
-use raw_column::{Opened, Table, read_table};
+use raw_column::{Opened, Table, TableAnswer, read_table};
+use refusal::{Refusal, Why};
 
 pub mod edits;
 mod typed;
@@ -45,18 +46,11 @@ pub struct CountedColumn {
     pub table: CountedTable,
 }
 
-// A count that a row carries.
-#[derive(Clone, Copy)]
-enum Stored {
-    Known(u64),
-    Unknown,
-}
-
 // The table of a block; no count is known.
 pub fn open(block: &[u8]) -> CountedOpened
     ensures { result ≡ counted_opened (parse block.now) }
 {
-    let o = read_table(block);
+    let o = TableAnswer::from(read_table(block));
     let t = o.table;
     let c = CountedTable {
         table: t,
@@ -96,50 +90,30 @@ fn fits_rows(lent: Table, read: Table) -> bool
     true
 }
 
-fn other_table() -> Opened
-    ensures { result ≡ opened (faulty 25 0) }
-{
-    let t = Table {
-        specs: [0u32; 64],
-        starts: [0u64; 64],
-        lens: [0u64; 64],
-        rows: 0,
-    };
-    Opened {
-        number: 25,
-        place: 0,
-        start: 0,
-        table: t,
-    }
-}
-
 // The table of a block, read beside one that is lent: table faults, then 25.
-fn open_lent(block: &[u8], lent: CountedTable) -> Opened
-    ensures { result ≡ opened (lent_tab lent block.now) }
+fn open_lent(block: &[u8], lent: CountedTable) -> Result<Opened, Refusal>
+    ensures { opened_of result ≡ opened (lent_tab lent block.now) }
 {
-    let o = read_table(block);
-    if o.number != 0 {
-        return o;
-    }
+    let o = read_table(block)?;
     let l = lent.table;
     let t = o.table;
     if !fits_rows(l, t) {
-        return other_table();
+        return Err(Refusal(Why::OtherTable, 0));
     }
-    o
+    Ok(o)
 }
 
 // The count that a row carries; none beyond the table's places.
-fn stored_at(lent: CountedTable, position: usize) -> Stored
-    ensures { stored_of result ≡ stored_at lent position }
+fn stored_at(lent: CountedTable, position: usize) -> Option<u64>
+    ensures { maybe_of result ≡ stored_at lent position }
 {
     if 64 <= position {
-        return Stored::Unknown;
+        return None;
     }
     if lent.known[position] == 0 {
-        return Stored::Unknown;
+        return None;
     }
-    Stored::Known(lent.counts[position])
+    Some(lent.counts[position])
 }
 
 // A table made anew, its counts as lent, with one stored.
@@ -185,28 +159,29 @@ fn count_of(typ: u8, column: &[u8]) -> Answer
 }
 
 // The count that is stored, or else that of the column from `at` up to `till`.
-fn count_row(typ: u8, stored: Stored, block: &[u8], at: usize, till: usize) -> Answer
+fn count_row(typ: u8, stored: Option<u64>, block: &[u8], at: usize, till: usize) -> Answer
     requires { (at ≤ till) × (till ≤ length block.now) }
-    ensures { answer_of result ≡ row_count typ (stored_of stored) (take (till - at) (drop at block.now)) }
+    ensures { answer_of result ≡ row_count typ (maybe_of stored) (take (till - at) (drop at block.now)) }
 {
     if typ == 0 {
-        return Answer::Refused(17, 0);
+        return Err(Refusal(Why::NotServed, 0));
     }
     if 5 < typ {
-        return Answer::Refused(17, 0);
+        return Err(Refusal(Why::NotServed, 0));
     }
     match stored {
-        Stored::Known(n) => Answer::Done(n),
-        Stored::Unknown => count_of(typ, &block[at..till]),
+        Some(n) => Ok(n),
+        None => count_of(typ, &block[at..till]),
     }
 }
 
 // A refusal gives the table back as it was lent.
-fn uncounted_answer(lent: CountedTable, number: u8, place: usize) -> CountedColumn
-    ensures { result ≡ not_counted lent number place }
+fn uncounted_answer(lent: CountedTable, refusal: Refusal) -> CountedColumn
+    ensures { result ≡ not_counted lent (number_of refusal.0) refusal.1 }
 {
+    let Refusal(why, place) = refusal;
     CountedColumn {
-        number: number,
+        number: u8::from(why),
         place: place,
         count: 0,
         table: lent,
@@ -231,14 +206,14 @@ fn counted_answer(lent: CountedTable, table: Table, position: usize, count: u64)
 pub fn count(block: &[u8], lent: CountedTable, position: usize) -> CountedColumn
     ensures { result ≡ counted lent block.now position }
 {
-    let o = open_lent(block, lent);
-    if o.number != 0 {
-        return uncounted_answer(lent, o.number, o.place);
-    }
-    let p = locate(block, position);
-    if p.number != 0 {
-        return uncounted_answer(lent, p.number, p.place);
-    }
+    let o = match open_lent(block, lent) {
+        Ok(o) => o,
+        Err(refusal) => return uncounted_answer(lent, refusal),
+    };
+    let p = match locate(block, position) {
+        Ok(p) => p,
+        Err(refusal) => return uncounted_answer(lent, refusal),
+    };
     let typ = ColumnSpec(p.spec).col_type().as_u8();
     match count_row(
         typ,
@@ -247,7 +222,7 @@ pub fn count(block: &[u8], lent: CountedTable, position: usize) -> CountedColumn
         p.start,
         p.start + p.len,
     ) {
-        Answer::Done(n) => counted_answer(lent, o.table, position, n),
-        Answer::Refused(number, place) => uncounted_answer(lent, number, place),
+        Ok(n) => counted_answer(lent, o.table, position, n),
+        Err(refusal) => uncounted_answer(lent, refusal),
     }
 }

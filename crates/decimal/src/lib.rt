@@ -3,151 +3,83 @@
 #![tactic(auto)]
 
 ghost use Rattle.std.specs.Prelude.{◌≡◌};
-ghost use Rattle.decimal.specs.Text.{with_digit, decimal_of, raised_of, lowered_of, plain_of, outside_of, signed_of, unsigned_of};
+ghost use Rattle.decimal.specs.Text.{with_digit, decimal_of, signed_of, unsigned_of, reading_error};
 
-pub const HALF: u64 = 9223372036854775808;
+pub const HALF: u64 = 1 << 63;
 
-// What decimal digits stand for.
-#[derive(Clone, Copy)]
-pub enum Decimal {
-    Value(u64),
+// Why a text stands for no number.
+#[derive(Clone, Copy, Debug, PartialEq, Eq)]
+pub enum DecimalError {
     NoNumber,
     TooLarge,
 }
 
-// A reading as it is given.
-#[derive(Clone, Copy)]
-pub enum Reading {
-    Value(u64),
-    Absent,
+// Why a text stands for no reading.
+#[derive(Clone, Copy, Debug, PartialEq, Eq)]
+pub enum ReadingError {
     NoNumber,
     OutOfRange,
 }
 
+impl From<DecimalError> for ReadingError {
+    ghost from_gives = { λ e r. r ≡ reading_error e };
+
+    fn from(e: DecimalError) -> ReadingError {
+        match e {
+            DecimalError::NoNumber => ReadingError::NoNumber,
+            DecimalError::TooLarge => ReadingError::OutOfRange,
+        }
+    }
+}
+
 // The number with one digit more.
-fn with_digit(value: u64, b: u8) -> Decimal
+fn with_digit(value: u64, b: u8) -> Result<u64, DecimalError>
     ensures { result ≡ with_digit value b }
 {
-    if b < 48 {
-        return Decimal::NoNumber;
+    if !b.is_ascii_digit() {
+        return Err(DecimalError::NoNumber);
     }
-    if 57 < b {
-        return Decimal::NoNumber;
-    }
-    let d = (b - 48) as u64;
-    if 1844674407370955161 < value {
-        return Decimal::TooLarge;
-    }
-    let tens = value * 10;
-    if u64::MAX - tens < d {
-        return Decimal::TooLarge;
-    }
-    Decimal::Value(tens + d)
+    let digit = u64::from(b - b'0');
+    value
+        .checked_mul(10)
+        .and_then(|tens| tens.checked_add(digit))
+        .ok_or(DecimalError::TooLarge)
 }
 
 // The number that digits stand for.
-pub fn decimal_of(s: &[u8]) -> Decimal
+pub fn decimal_of(s: &[u8]) -> Result<u64, DecimalError>
     ensures { result ≡ decimal_of s.now }
 {
-    if s.len() == 0 {
-        return Decimal::NoNumber;
+    if s.is_empty() {
+        return Err(DecimalError::NoNumber);
     }
-    let mut value: u64 = 0;
-    let mut i = 0;
-    while i < s.len() {
-        match with_digit(value, s[i]) {
-            Decimal::Value(longer) => {
-                value = longer;
-            }
-            Decimal::NoNumber => {
-                return Decimal::NoNumber;
-            }
-            Decimal::TooLarge => {
-                return Decimal::TooLarge;
-            }
-        }
-        i += 1;
+    let mut value = 0;
+    for b in s {
+        value = with_digit(value, *b)?;
     }
-    Decimal::Value(value)
-}
-
-// A reading of 0 or more, as it is kept.
-fn raised(d: Decimal) -> Reading
-    ensures { result ≡ raised_of d }
-{
-    match d {
-        Decimal::Value(n) => {
-            if n < HALF {
-                Reading::Value(HALF + n)
-            } else {
-                Reading::OutOfRange
-            }
-        }
-        Decimal::NoNumber => Reading::NoNumber,
-        Decimal::TooLarge => Reading::OutOfRange,
-    }
-}
-
-// A reading below 0, as it is kept.
-fn lowered(d: Decimal) -> Reading
-    ensures { result ≡ lowered_of d }
-{
-    match d {
-        Decimal::Value(n) => {
-            if n <= HALF {
-                Reading::Value(HALF - n)
-            } else {
-                Reading::OutOfRange
-            }
-        }
-        Decimal::NoNumber => Reading::NoNumber,
-        Decimal::TooLarge => Reading::OutOfRange,
-    }
-}
-
-fn plain(d: Decimal) -> Reading
-    ensures { result ≡ plain_of d }
-{
-    match d {
-        Decimal::Value(n) => Reading::Value(n),
-        Decimal::NoNumber => Reading::NoNumber,
-        Decimal::TooLarge => Reading::OutOfRange,
-    }
-}
-
-// A number with a minus sign where none below 0 may be.
-fn outside(d: Decimal) -> Reading
-    ensures { result ≡ outside_of d }
-{
-    match d {
-        Decimal::Value(_) => Reading::OutOfRange,
-        Decimal::NoNumber => Reading::NoNumber,
-        Decimal::TooLarge => Reading::OutOfRange,
-    }
+    Ok(value)
 }
 
 // The reading that a text stands for, with or without a minus sign.
-pub fn signed_of(s: &[u8]) -> Reading
+pub fn signed_of(s: &[u8]) -> Result<u64, ReadingError>
     ensures { result ≡ signed_of s.now }
 {
-    if s.len() == 0 {
-        return Reading::NoNumber;
-    }
-    if s[0] == b'-' {
-        return lowered(decimal_of(&s[1..]));
-    }
-    raised(decimal_of(s))
+    let kept = match s {
+        [b'-', digits @ ..] => HALF.checked_sub(decimal_of(digits)?),
+        _ => HALF.checked_add(decimal_of(s)?),
+    };
+    kept.ok_or(ReadingError::OutOfRange)
 }
 
 // The same where no reading is below 0.
-pub fn unsigned_of(s: &[u8]) -> Reading
+pub fn unsigned_of(s: &[u8]) -> Result<u64, ReadingError>
     ensures { result ≡ unsigned_of s.now }
 {
-    if s.len() == 0 {
-        return Reading::NoNumber;
+    match s {
+        [b'-', digits @ ..] => {
+            decimal_of(digits)?;
+            Err(ReadingError::OutOfRange)
+        }
+        _ => Ok(decimal_of(s)?),
     }
-    if s[0] == b'-' {
-        return outside(decimal_of(&s[1..]));
-    }
-    plain(decimal_of(s))
 }

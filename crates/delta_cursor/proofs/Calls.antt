@@ -20,9 +20,8 @@ use Rattle.delta_decoder.specs.Sums.{delta_trace}
 use Rattle.delta_cursor.specs.SumCursor.{SumCursor, summing, sum_fresh, delta_step}
 use Rattle.delta_cursor.specs.State.{cursor_of, bare_at, kept_as, kept, new_for, answer_for, told, step_of}
 use Rattle.delta_cursor.specs.declared.DeltaCursor.{DeltaCursor}
-use Rattle.delta_cursor.specs.declared.DeltaStepped.{DeltaStepped}
-use Rattle.delta_cursor.specs.declared.DeltaAnswer.{DeltaAnswer}
-use Rattle.delta_cursor.specs.declared.DeltaAnswer.TheVariants as answer
+use Rattle.delta_cursor.specs.Answer.{DeltaAnswer, DeltaStepped}
+use Rattle.delta_cursor.specs.Answer as answer
 use Rattle.delta_cursor.proofs.SumCursors.{says-sums, sum-within, sum_agrees}
 
 module _ (s : List ℕ) where

@@ -20,9 +20,8 @@ use Rattle.delta_cursor.specs.State.{cursor_of, kept, told, step_of}
 use Rattle.delta_cursor.specs.Cases.{differences_in, differences_of, one_repeat}
 use Rattle.delta_cursor.specs.declared.DeltaCursor.{DeltaCursor}
 use Rattle.delta_cursor.specs.declared.Differences.{Differences}
-use Rattle.delta_cursor.specs.declared.DeltaStepped.{DeltaStepped}
-use Rattle.delta_cursor.specs.declared.DeltaAnswer.{DeltaAnswer}
-use Rattle.delta_cursor.specs.declared.DeltaAnswer.TheVariants as answer
+use Rattle.delta_cursor.specs.Answer.{DeltaAnswer, DeltaStepped}
+use Rattle.delta_cursor.specs.Answer as answer
 
 -- a step that answers a, and leaves the state k
 abbrev out : DeltaCursor → DeltaAnswer → DeltaStepped

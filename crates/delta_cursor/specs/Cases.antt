@@ -1,17 +1,17 @@
--- What the private functions' answers stand for.
-use Rattle.std.specs.Prelude.{◌-◌, ℤ}
-use Rattle.std.proofs.Math.Option.{Option, none, some}
+-- What each answer of the code stands for.
+use Rattle.std.specs.Prelude.{◌-◌, ℤ, Result, Ok, Err, Option, Some, None}
+use Rattle.refusal.specs.Number.{number_of}
+use Rattle.refusal.specs.declared.Refusal.{Refusal}
 use Rattle.encoding.specs.Walk.{Next, over, on, off}
 use Rattle.encoding.specs.Column.{Reading, present}
 use Rattle.cursor.specs.Steps.{Stepped, gives}
 use Rattle.cursor.specs.Cursor.{same, Cursor, cursor}
 use Rattle.cursor.specs.Kept.{sort_of}
+use Rattle.delta_cursor.specs.Answer.{DeltaAnswer, DeltaStepped}
+use Rattle.delta_cursor.specs.Answer as answer
 use Rattle.delta_cursor.specs.declared.DeltaCursor.{DeltaCursor}
+use Rattle.delta_cursor.specs.declared.DeltaStepped as code
 use Rattle.delta_cursor.specs.declared.Differences.{Differences}
-use Rattle.delta_cursor.specs.declared.Reached.{Reached}
-use Rattle.delta_cursor.specs.declared.Reached.TheVariants as reached
-use Rattle.delta_cursor.specs.declared.Sum.{Sum}
-use Rattle.delta_cursor.specs.declared.Sum.TheVariants as sum
 
 -- where a state stands in the differences
 abbrev pub differences_in : DeltaCursor → Differences
@@ -27,11 +27,16 @@ one_repeat d =
     let r = present d.difference d.place in
     gives r (cursor d.at d.had (d.left - 1) (same r))
 
-abbrev pub next_of : Reached → Next (Cursor ℤ)
-next_of (reached.On d) = on (differences_of d)
-next_of reached.Over = over
-next_of (reached.Off number place) = off number place
+abbrev pub next_of : Result (Option Differences) Refusal → Next (Cursor ℤ)
+next_of (Ok (Some d)) = on (differences_of d)
+next_of (Ok None) = over
+next_of (Err e) = off (number_of e.0) e.1
 
-abbrev pub sum_of : Sum → Option ℤ
-sum_of (sum.Is z) = some z
-sum_of sum.Outside = none
+abbrev pub answer_of : Result (Option (Option ℤ)) Refusal → DeltaAnswer
+answer_of (Ok (Some (Some value))) = answer.Present value
+answer_of (Ok (Some None)) = answer.Absent
+answer_of (Ok None) = answer.End
+answer_of (Err e) = answer.Refused (number_of e.0) e.1
+
+abbrev pub stepped_of : code.DeltaStepped → DeltaStepped
+stepped_of r = record { cursor = r.cursor; answer = answer_of r.answer }

@@ -3,13 +3,12 @@ use Rattle.std.specs.Prelude.{ℕ, List, ℤ, pos}
 use Rattle.encoding.specs.Walk.{sound, fault}
 use Rattle.encoding.specs.Column.{Reading, absent, present}
 use Rattle.cursor.specs.Steps.{Stepped, Said, reading, ended, said}
-use Rattle.cursor.specs.Cursor.{Sort, same, literal, Cursor, cursor}
+use Rattle.cursor.specs.Cursor.{Sort, same, literal, cursor}
 use Rattle.cursor.specs.Kept.{checked, sort_of, leaves}
 use Rattle.delta_cursor.specs.SumCursor.{SumCursor, summing, sum_fresh, delta_step}
 use Rattle.delta_cursor.specs.declared.DeltaCursor.{DeltaCursor}
-use Rattle.delta_cursor.specs.declared.DeltaStepped.{DeltaStepped}
-use Rattle.delta_cursor.specs.declared.DeltaAnswer.{DeltaAnswer}
-use Rattle.delta_cursor.specs.declared.DeltaAnswer.TheVariants as answer
+use Rattle.delta_cursor.specs.Answer.{DeltaAnswer, DeltaStepped}
+use Rattle.delta_cursor.specs.Answer as answer
 
 -- the cursor that a state stands for
 abbrev pub cursor_of : DeltaCursor → SumCursor

@@ -5,20 +5,22 @@
 
 ghost use Rattle.std.specs.Prelude.{◌≡◌, ◌+◌, ◌≤◌, ◌<◌, ◌+ℤ◌, length};
 ghost use Rattle.leb128.specs.Read.{i64_at};
+ghost use Rattle.encoding.specs.Cases.{maybe_of};
 ghost use Rattle.encoding.specs.Limit.{limit};
 ghost use Rattle.cursor.specs.Cursor.{carried, enter, one_literal, one};
 ghost use Rattle.delta_decoder.specs.Difference.{holds, i64_e};
 ghost use Rattle.delta_decoder.specs.Sums.{held_sum};
-ghost use Rattle.delta_cursor.specs.Cases.{differences_in, differences_of, next_of, sum_of, one_repeat};
+ghost use Rattle.delta_cursor.specs.Cases.{differences_in, differences_of, next_of, one_repeat, answer_of, stepped_of};
 ghost use Rattle.delta_cursor.specs.State.{bare_at, new_for, told, step_of};
 ghost use Rattle.delta_cursor.specs.SumCursor.{add_step};
 
 use encoding::Head;
-use leb128::{ParsedI64, magnitude};
+use leb128::magnitude;
+use refusal::{Refusal, Why};
 
 const HALF: u64 = 9223372036854775808;
 
-// The sorts of a run, as a state has them; any number above is LITERAL too.
+// The sorts of a run, as a state has them: numbers and no enum, for the C interface; any number above is LITERAL too.
 const ABSENT: u64 = 0;
 
 const REPEAT: u64 = 1;
@@ -27,7 +29,7 @@ const LITERAL: u64 = 2;
 
 // The state that the host keeps; any numbers are one.
 #[repr(C)]
-#[derive(Clone, Copy)]
+#[derive(Clone, Copy, Debug, PartialEq, Eq)]
 pub struct DeltaCursor {
     // The length of the column that it was made for.
     pub len: usize,
@@ -46,24 +48,18 @@ pub struct DeltaCursor {
     pub sum: i64,
 }
 
-// The next reading, present with its value or absent; the end of the column; or a refusal's number and place.
-#[derive(Clone, Copy)]
-pub enum DeltaAnswer {
-    Present(i64),
-    Absent,
-    End,
-    Refused(u8, usize),
-}
+// The next reading, a value or none where it is absent; none of both at the end of the column; or a refusal.
+pub type DeltaAnswer = Result<Option<Option<i64>>, Refusal>;
 
 // The state behind a step, and what the step answers.
-#[derive(Clone, Copy)]
+#[derive(Clone, Copy, Debug, PartialEq, Eq)]
 pub struct DeltaStepped {
     pub cursor: DeltaCursor,
     pub answer: DeltaAnswer,
 }
 
 // A state's numbers but for the length and the sum.
-#[derive(Clone, Copy)]
+#[derive(Clone, Copy, Debug, PartialEq, Eq)]
 struct Differences {
     at: usize,
     had: u64,
@@ -73,20 +69,8 @@ struct Differences {
     place: usize,
 }
 
-// Where it comes to; or the column is over, or has a fault, before that.
-#[derive(Clone, Copy)]
-enum Reached {
-    On(Differences),
-    Over,
-    Off(u8, usize),
-}
-
-// A sum that an i64 holds, or one that leaves it.
-#[derive(Clone, Copy)]
-enum Sum {
-    Is(i64),
-    Outside,
-}
+// Where it comes to; none where the column is over before that; or its fault there.
+type Reached = Result<Option<Differences>, Refusal>;
 
 // The state in an absent or a literal run, which carries no difference.
 fn bare(len: usize, at: usize, had: u64, left: u64, sort: u64, sum: i64) -> DeltaCursor
@@ -130,17 +114,15 @@ fn carried_at(column: &[u8], q: usize, had: u64, c: u64) -> Reached
     requires { had + c ≤ limit }
     ensures { next_of result ≡ carried had c q (i64_at column.now q) }
 {
-    match leb128::i64_by_bytes(column, q) {
-        ParsedI64::Number(d, next) => Reached::On(Differences {
-            at: next,
-            had: had + c,
-            left: c,
-            sort: REPEAT,
-            difference: d,
-            place: q,
-        }),
-        ParsedI64::Refused(n, place) => Reached::Off(n, place),
-    }
+    let (d, next) = leb128::i64_by_bytes(column, q)?;
+    Ok(Some(Differences {
+        at: next,
+        had: had + c,
+        left: c,
+        sort: REPEAT,
+        difference: d,
+        place: q,
+    }))
 }
 
 // Into the run at `at`, before which there are `had` readings.
@@ -148,27 +130,26 @@ fn entered_at(column: &[u8], at: usize, had: u64) -> Reached
     ensures { next_of result ≡ enter i64_e column.now at had }
 {
     if column.len() <= at {
-        return Reached::Over;
+        return Ok(None);
     }
-    match run_head::head_by_bytes(column, at, had) {
+    match run_head::head_by_bytes(column, at, had)? {
         Head::Repeat(c, q) => carried_at(column, q, had, c),
-        Head::Literal(c, q) => Reached::On(Differences {
+        Head::Literal(c, q) => Ok(Some(Differences {
             at: q,
             had: had + c,
             left: c,
             sort: LITERAL,
             difference: 0,
             place: 0,
-        }),
-        Head::Absent(c, next) => Reached::On(Differences {
+        })),
+        Head::Absent(c, next) => Ok(Some(Differences {
             at: next,
             had: had + c,
             left: c,
             sort: ABSENT,
             difference: 0,
             place: 0,
-        }),
-        Head::Refused(n, place) => Reached::Off(n, place),
+        })),
     }
 }
 
@@ -190,35 +171,32 @@ fn is_held(z: i64, d: i64) -> bool
     a + b < HALF
 }
 
-fn add(z: i64, d: i64) -> Sum
-    ensures { sum_of result ≡ held_sum z d }
+// The sum z + d, where an i64 holds it.
+fn add(z: i64, d: i64) -> Option<i64>
+    ensures { maybe_of result ≡ held_sum z d }
 {
-    if is_held(z, d) {
-        Sum::Is(z + d)
-    } else {
-        Sum::Outside
-    }
+    if is_held(z, d) { Some(z + d) } else { None }
 }
 
 // The literal difference at c, in a call that was lent `lent`.
 fn literal_at(column: &[u8], lent: DeltaCursor, c: Differences) -> DeltaStepped
     requires { 0 < c.left }
-    ensures { result ≡ told lent (add_step lent.sum (one_literal (differences_of c) (i64_at column.now c.at))) }
+    ensures { stepped_of result ≡ told lent (add_step lent.sum (one_literal (differences_of c) (i64_at column.now c.at))) }
 {
     match leb128::i64_by_bytes(column, c.at) {
-        ParsedI64::Number(d, next) => match add(lent.sum, d) {
-            Sum::Is(z) => DeltaStepped {
+        Ok((d, next)) => match add(lent.sum, d) {
+            Some(z) => DeltaStepped {
                 cursor: bare(lent.len, next, c.had, c.left - 1, LITERAL, z),
-                answer: DeltaAnswer::Present(z),
+                answer: Ok(Some(Some(z))),
             },
-            Sum::Outside => DeltaStepped {
+            None => DeltaStepped {
                 cursor: lent,
-                answer: DeltaAnswer::Refused(6, c.at),
+                answer: Err(Refusal(Why::SumOutside, c.at)),
             },
         },
-        ParsedI64::Refused(n, place) => DeltaStepped {
+        Err(fault) => DeltaStepped {
             cursor: lent,
-            answer: DeltaAnswer::Refused(n, place),
+            answer: Err(fault),
         },
     }
 }
@@ -226,10 +204,10 @@ fn literal_at(column: &[u8], lent: DeltaCursor, c: Differences) -> DeltaStepped
 // The difference that repeats at c.
 fn repeat_at(lent: DeltaCursor, c: Differences) -> DeltaStepped
     requires { 0 < c.left }
-    ensures { result ≡ told lent (add_step lent.sum (one_repeat c)) }
+    ensures { stepped_of result ≡ told lent (add_step lent.sum (one_repeat c)) }
 {
     match add(lent.sum, c.difference) {
-        Sum::Is(z) => {
+        Some(z) => {
             let d = DeltaCursor {
                 len: lent.len,
                 at: c.at,
@@ -242,12 +220,12 @@ fn repeat_at(lent: DeltaCursor, c: Differences) -> DeltaStepped
             };
             DeltaStepped {
                 cursor: d,
-                answer: DeltaAnswer::Present(z),
+                answer: Ok(Some(Some(z))),
             }
         }
-        Sum::Outside => DeltaStepped {
+        None => DeltaStepped {
             cursor: lent,
-            answer: DeltaAnswer::Refused(6, c.place),
+            answer: Err(Refusal(Why::SumOutside, c.place)),
         },
     }
 }
@@ -255,12 +233,12 @@ fn repeat_at(lent: DeltaCursor, c: Differences) -> DeltaStepped
 // One reading of the present run of c, in a call that was lent `lent`.
 fn one_of(column: &[u8], lent: DeltaCursor, c: Differences) -> DeltaStepped
     requires { 0 < c.left }
-    ensures { result ≡ told lent (add_step lent.sum (one i64_e column.now (differences_of c))) }
+    ensures { stepped_of result ≡ told lent (add_step lent.sum (one i64_e column.now (differences_of c))) }
 {
     if c.sort == ABSENT {
         return DeltaStepped {
             cursor: bare(lent.len, c.at, c.had, c.left - 1, ABSENT, lent.sum),
-            answer: DeltaAnswer::Absent,
+            answer: Ok(Some(None)),
         };
     }
     if c.sort == REPEAT {
@@ -272,36 +250,36 @@ fn one_of(column: &[u8], lent: DeltaCursor, c: Differences) -> DeltaStepped
 // One step, from any state: the next reading, the end or a refusal, and the state behind it. Where nothing is left of the present run the next
 // one is entered, and those that add nothing are passed.
 pub fn step(column: &[u8], cursor: DeltaCursor) -> DeltaStepped
-    ensures { result ≡ step_of column.now cursor }
+    ensures { stepped_of result ≡ step_of column.now cursor }
 {
     if cursor.len != column.len() {
         return DeltaStepped {
             cursor: cursor,
-            answer: DeltaAnswer::Refused(24, 0),
+            answer: Err(Refusal(Why::BadCursor, 0)),
         };
     }
     if column.len() < cursor.at {
         return DeltaStepped {
             cursor: cursor,
-            answer: DeltaAnswer::Refused(24, 0),
+            answer: Err(Refusal(Why::BadCursor, 0)),
         };
     }
     let mut c = within(cursor);
     while c.left == 0 {
         match entered_at(column, c.at, c.had) {
-            Reached::On(d) => {
+            Ok(Some(d)) => {
                 c = d;
             }
-            Reached::Over => {
+            Ok(None) => {
                 return DeltaStepped {
                     cursor: cursor,
-                    answer: DeltaAnswer::End,
+                    answer: Ok(None),
                 };
             }
-            Reached::Off(n, place) => {
+            Err(fault) => {
                 return DeltaStepped {
                     cursor: cursor,
-                    answer: DeltaAnswer::Refused(n, place),
+                    answer: Err(fault),
                 };
             }
         }
@@ -311,7 +289,7 @@ pub fn step(column: &[u8], cursor: DeltaCursor) -> DeltaStepped
 
 // The next reading, the end or a refusal; the state is advanced in place.
 pub fn next(column: &[u8], cursor: &mut DeltaCursor) -> DeltaAnswer
-    ensures { (result ≡ (step_of column.now cursor.old).answer)
+    ensures { (answer_of result ≡ (step_of column.now cursor.old).answer)
         × (cursor.new ≡ (step_of column.now cursor.old).cursor) }
 {
     let r = step(column, *cursor);

@@ -1,27 +1,18 @@
 // The difference at a position read and added to a sum. One of one or two bytes is added without asking which of the two it is, or for its sign:
 // both change from reading to reading of a rough stroke. The first byte's entry in the table is the number of one byte, and adds nothing to one of two.
 ghost use Rattle.std.specs.Prelude.{◌≡◌, ◌+◌, ◌<◌, ◌≤◌, ◌^◌};
+ghost use Rattle.leb128.specs.Cases.{parsed_of};
 ghost use Rattle.leb128.specs.Read.{i64_at};
 ghost use Rattle.leb128.specs.Short.{entry_of, short};
-ghost use Rattle.delta_decoder.specs.Added.{adding, added_of, over_mark, Nearly, NearBytes};
+ghost use Rattle.delta_decoder.specs.Added.{adding, over_mark, Nearly, NearBytes};
 
 use crate::difference;
-use crate::sums::{ALL, Sum, add};
-use leb128::{ParsedI64, magnitude};
+use crate::sums::{ALL, add};
+use leb128::{Parsed, magnitude};
+use refusal::{Refusal, Why};
 
-// The sum with the difference, and the position behind it; or the refusal.
-#[derive(Clone, Copy)]
-pub(crate) enum Added {
-    To(u64, usize),
-    Off(u8, usize),
-}
-
-// The same of a difference of one or two bytes that cannot lead out of i64; or that it is another.
-#[derive(Clone, Copy)]
-pub(crate) enum Near {
-    To(u64, usize),
-    Other,
-}
+// The sum with a difference of one or two bytes that cannot lead out of i64, and the position behind it; none where it is another.
+pub(crate) type Near = Option<(u64, usize)>;
 
 // What is added and what is taken away again are below this.
 const ROOM: u64 = 32768;
@@ -68,14 +59,14 @@ fn near_bytes(e: u64, b: u64, d: u64, behind: usize, n: u64) -> Near
     let low = b % 128;
     let high = only(d, two);
     if 128 <= high {
-        return Near::Other;
+        return None;
     }
     if d + only(256, 1 - two) == low / 64 * 127 {
-        return Near::Other;
+        return None;
     }
     let up = e + only(low, two) + 128 * high;
     let down = only(128, 1 - two) + high / 64 * 16384;
-    Near::To(n + up - down, behind + two as usize)
+    Some((n + up - down, behind + two as usize))
 }
 
 // The difference at `at` added to the sum n, where it has one or two bytes and n is far from both ends.
@@ -84,17 +75,17 @@ pub(crate) fn add_near(table: &[i8; 256], s: &[u8], at: usize, n: u64) -> Near
     ensures { Nearly result (adding n at (i64_at s.now at)) }
 {
     if n < ROOM {
-        return Near::Other;
+        return None;
     }
     if ALL - ROOM < n {
-        return Near::Other;
+        return None;
     }
     if s.len() <= at {
-        return Near::Other;
+        return None;
     }
     let behind = at + 1;
     if s.len() <= behind {
-        return Near::Other;
+        return None;
     }
     let first = s[at];
     let place = place_of(first);
@@ -103,16 +94,14 @@ pub(crate) fn add_near(table: &[i8; 256], s: &[u8], at: usize, n: u64) -> Near
     near_bytes(e, wide(first), d, behind, n)
 }
 
-// Any difference at `at` added to the sum n.
-pub(crate) fn add_at(table: &[i8; 256], s: &[u8], at: usize, n: u64) -> Added
+// Any difference at `at` added to the sum n: the sum, and the position behind the difference.
+pub(crate) fn add_at(table: &[i8; 256], s: &[u8], at: usize, n: u64) -> Parsed<u64>
     requires { table.now ≡ short }
-    ensures { added_of result ≡ adding n at (i64_at s.now at) }
+    ensures { parsed_of result ≡ adding n at (i64_at s.now at) }
 {
-    match difference(table, s, at) {
-        ParsedI64::Number(d, next) => match add(n, d) {
-            Sum::Is(m) => Added::To(m, next),
-            Sum::Outside => Added::Off(6, at),
-        },
-        ParsedI64::Refused(number, place) => Added::Off(number, place),
+    let (d, next) = difference(table, s, at)?;
+    match add(n, d) {
+        Some(m) => Ok((m, next)),
+        None => Err(Refusal(Why::SumOutside, at)),
     }
 }

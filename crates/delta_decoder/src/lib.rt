@@ -5,7 +5,7 @@
 ghost use Rattle.std.specs.Prelude.{◌≡◌, ◌+◌, ◌≤◌, ◌<◌, pos, length, replicate};
 ghost use Rattle.std.proofs.Math.Option.{some};
 ghost use Rattle.std.proofs.lemmas.List.Edits.{sets};
-ghost use Rattle.leb128.specs.Cases.{i64_of};
+ghost use Rattle.leb128.specs.Cases.{parsed_of};
 ghost use Rattle.leb128.specs.Got.{got};
 ghost use Rattle.leb128.specs.Read.{i64_at};
 ghost use Rattle.leb128.specs.Short.{short};
@@ -14,7 +14,7 @@ ghost use Rattle.encoding.specs.Column.{repeated, literals};
 ghost use Rattle.encoding.specs.Head.{head_at};
 ghost use Rattle.encoding.specs.Limit.{limit};
 ghost use Rattle.encoding.specs.Slots.{slot_of, flag_of, Decoded, Room, Wrote};
-ghost use Rattle.encoding.specs.Survivors.{survey_of, surviving};
+ghost use Rattle.encoding.specs.Survivors.{seen, survey_of, surviving};
 ghost use Rattle.encoding.specs.Walk.{outcome};
 ghost use Rattle.delta_decoder.specs.Cases.{step_of};
 ghost use Rattle.delta_decoder.specs.Difference.{i64_e};
@@ -24,20 +24,17 @@ ghost use Rattle.delta_decoder.specs.Sums.{delta_trace, last_sum};
 mod added;
 pub mod sums;
 
-use crate::added::{Added, Near, add_at, add_near};
-use crate::sums::{HALF, Sum, add, add_times, sum_of, times_held};
+use crate::added::{add_at, add_near};
+use crate::sums::{HALF, add, add_times, sum_of, times_held};
 use encoding::{Answer, Head, Survey};
-use leb128::ParsedI64;
+use leb128::Parsed;
+use refusal::{Refusal, Why};
 
 // Behind a run: the next position, how many readings came so far, and their sum; or the run's fault.
-#[derive(Clone, Copy)]
-enum Step {
-    On(usize, u64, u64),
-    Off(u8, usize),
-}
+type Step = Result<(usize, u64, u64), Refusal>;
 
 // How the run at `at` begins, by the fixed table.
-fn head_of(table: &[i8; 256], s: &[u8], at: usize, had: u64) -> Head
+fn head_of(table: &[i8; 256], s: &[u8], at: usize, had: u64) -> Result<Head, Refusal>
     requires { table.now ≡ short }
     ensures { head_of result ≡ head_at s.now at had }
 {
@@ -45,9 +42,9 @@ fn head_of(table: &[i8; 256], s: &[u8], at: usize, had: u64) -> Head
 }
 
 // The difference at `at`, by the fixed table.
-fn difference(table: &[i8; 256], s: &[u8], at: usize) -> ParsedI64
+fn difference(table: &[i8; 256], s: &[u8], at: usize) -> Parsed<i64>
     requires { table.now ≡ short }
-    ensures { i64_of result ≡ i64_at s.now at }
+    ensures { parsed_of result ≡ i64_at s.now at }
 {
     leb128::i64_by(table, s, at)
 }
@@ -58,12 +55,10 @@ fn scan_repeat(table: &[i8; 256], s: &[u8], q: usize, had: u64, c: u64, n: u64) 
     requires table_value { table.now ≡ short }
     ensures { step_of result ≡ (summing n (repeated had c q (i64_at s.now q))).next }
 {
-    match difference(table, s, q) {
-        ParsedI64::Number(d, next) => match add_times(n, d, c) {
-            Sum::Is(m) => Step::On(next, had + c, m),
-            Sum::Outside => Step::Off(6, q),
-        },
-        ParsedI64::Refused(k, place) => Step::Off(k, place),
+    let (d, next) = difference(table, s, q)?;
+    match add_times(n, d, c) {
+        Some(m) => Ok((next, had + c, m)),
+        None => Err(Refusal(Why::SumOutside, q)),
     }
 }
 
@@ -77,24 +72,20 @@ fn scan_literal(table: &[i8; 256], s: &[u8], q: usize, total: u64, c: u64, sum: 
     let mut n = sum;
     while 0 < left {
         match add_near(table, s, at, n) {
-            Near::To(m, next) => {
+            Some((m, next)) => {
                 at = next;
                 left -= 1;
                 n = m;
             }
-            Near::Other => match add_at(table, s, at, n) {
-                Added::To(m, next) => {
-                    at = next;
-                    left -= 1;
-                    n = m;
-                }
-                Added::Off(k, place) => {
-                    return Step::Off(k, place);
-                }
-            },
+            None => {
+                let (m, next) = add_at(table, s, at, n)?;
+                at = next;
+                left -= 1;
+                n = m;
+            }
         }
     }
-    Step::On(at, total, n)
+    Ok((at, total, n))
 }
 
 // The run at `at`, before which there are `had` readings and the sum n.
@@ -103,11 +94,10 @@ fn scan_run(table: &[i8; 256], s: &[u8], at: usize, had: u64, n: u64) -> Step
     requires table_value { table.now ≡ short }
     ensures { step_of result ≡ (delta_run s.now (sofar at had n)).next }
 {
-    match head_of(table, s, at, had) {
+    match head_of(table, s, at, had)? {
         Head::Repeat(c, q) => scan_repeat(table, s, q, had, c, n),
         Head::Literal(c, q) => scan_literal(table, s, q, had + c, c, n),
-        Head::Absent(c, next) => Step::On(next, had + c, n),
-        Head::Refused(k, place) => Step::Off(k, place),
+        Head::Absent(c, next) => Ok((next, had + c, n)),
     }
 }
 
@@ -120,21 +110,15 @@ fn read_literals(table: &[i8; 256], s: &[u8], q: usize, c: u64, sum: u64) -> u64
     let mut read: u64 = 0;
     let mut n = sum;
     while read < c {
-        match difference(table, s, at) {
-            ParsedI64::Number(d, next) => match add(n, d) {
-                Sum::Is(m) => {
-                    at = next;
-                    read += 1;
-                    n = m;
-                }
-                Sum::Outside => {
-                    return read;
-                }
-            },
-            ParsedI64::Refused(_, _) => {
-                return read;
-            }
-        }
+        let Ok((d, next)) = difference(table, s, at) else {
+            return read;
+        };
+        let Some(m) = add(n, d) else {
+            return read;
+        };
+        at = next;
+        read += 1;
+        n = m;
     }
     read
 }
@@ -147,19 +131,19 @@ fn read_run(table: &[i8; 256], s: &[u8], at: usize, had: u64, n: u64) -> u64
     ensures result_bound { had + result ≤ limit }
 {
     match head_of(table, s, at, had) {
-        Head::Repeat(c, q) => match difference(table, s, q) {
-            ParsedI64::Number(d, _) => times_held(n, d, c),
-            ParsedI64::Refused(_, _) => 0,
+        Ok(Head::Repeat(c, q)) => match difference(table, s, q) {
+            Ok((d, _)) => times_held(n, d, c),
+            Err(_) => 0,
         },
-        Head::Literal(c, q) => read_literals(table, s, q, c, n),
-        Head::Absent(c, _) => c,
-        Head::Refused(_, _) => 0,
+        Ok(Head::Literal(c, q)) => read_literals(table, s, q, c, n),
+        Ok(Head::Absent(c, _)) => c,
+        Err(_) => 0,
     }
 }
 
 // What survives of a column: how many readings before its first fault, and that fault.
 pub fn survey(s: &[u8]) -> Survey
-    ensures { result ≡ survey_of (delta_trace s.now) }
+    ensures { seen result ≡ survey_of (delta_trace s.now) }
 {
     let table = leb128::short_numbers();
     let mut at: usize = 0;
@@ -167,25 +151,23 @@ pub fn survey(s: &[u8]) -> Survey
     let mut n: u64 = HALF;
     while at < s.len() {
         match scan_run(&table, s, at, had, n) {
-            Step::On(next, h, m) => {
+            Ok((next, h, m)) => {
                 at = next;
                 had = h;
                 n = m;
             }
-            Step::Off(number, place) => {
+            Err(fault) => {
                 let read = read_run(&table, s, at, had, n);
                 return Survey {
                     readings: had + read,
-                    number: number,
-                    place: place,
+                    fault: Some(fault),
                 };
             }
         }
     }
     Survey {
         readings: had,
-        number: 0,
-        place: 0,
+        fault: None,
     }
 }
 
@@ -194,10 +176,10 @@ pub fn count(s: &[u8]) -> Answer
     ensures { answer_of result ≡ outcome (delta_trace s.now) }
 {
     let found = survey(s);
-    if found.number == 0 {
-        return Answer::Done(found.readings);
+    match found.fault {
+        Some(fault) => Err(fault),
+        None => Ok(found.readings),
     }
-    Answer::Refused(found.number, found.place)
 }
 
 // The sum behind c literal differences from q on, on the sum `sum`, up to the first that cannot be read or added.
@@ -208,21 +190,15 @@ fn literals_sum(s: &[u8], q: usize, c: u64, sum: u64) -> u64
     let mut left = c;
     let mut n = sum;
     while 0 < left {
-        match leb128::leb128_i64(s, at) {
-            ParsedI64::Number(d, next) => match add(n, d) {
-                Sum::Is(m) => {
-                    at = next;
-                    left -= 1;
-                    n = m;
-                }
-                Sum::Outside => {
-                    return n;
-                }
-            },
-            ParsedI64::Refused(_, _) => {
-                return n;
-            }
-        }
+        let Ok((d, next)) = leb128::leb128_i64(s, at) else {
+            return n;
+        };
+        let Some(m) = add(n, d) else {
+            return n;
+        };
+        at = next;
+        left -= 1;
+        n = m;
     }
     n
 }
@@ -232,8 +208,8 @@ fn repeat_sum(n: u64, d: i64, c: u64) -> u64
     ensures { plus_times n d (times_held n d c) ≡ some result }
 {
     match add_times(n, d, times_held(n, d, c)) {
-        Sum::Is(m) => m,
-        Sum::Outside => n,
+        Some(m) => m,
+        None => n,
     }
 }
 
@@ -243,13 +219,13 @@ fn run_sum(s: &[u8], at: usize, had: u64, n: u64) -> u64
     ensures { sum_of result ≡ last_sum (sum_of n) (delta_run s.now (sofar at had n)).readings }
 {
     match run_head::head_at(s, at, had) {
-        Head::Repeat(c, q) => match leb128::leb128_i64(s, q) {
-            ParsedI64::Number(d, _) => repeat_sum(n, d, c),
-            ParsedI64::Refused(_, _) => n,
+        Ok(Head::Repeat(c, q)) => match leb128::leb128_i64(s, q) {
+            Ok((d, _)) => repeat_sum(n, d, c),
+            Err(_) => n,
         },
-        Head::Literal(c, q) => literals_sum(s, q, c, n),
-        Head::Absent(_, _) => n,
-        Head::Refused(_, _) => n,
+        Ok(Head::Literal(c, q)) => literals_sum(s, q, c, n),
+        Ok(Head::Absent(_, _)) => n,
+        Err(_) => n,
     }
 }
 
@@ -262,16 +238,12 @@ pub fn last_sum(s: &[u8]) -> i64
     let mut had: u64 = 0;
     let mut n: u64 = HALF;
     while at < s.len() {
-        match scan_run(&table, s, at, had, n) {
-            Step::On(next, h, m) => {
-                at = next;
-                had = h;
-                n = m;
-            }
-            Step::Off(_, _) => {
-                return sum_of(run_sum(s, at, had, n));
-            }
-        }
+        let Ok((next, h, m)) = scan_run(&table, s, at, had, n) else {
+            return sum_of(run_sum(s, at, had, n));
+        };
+        at = next;
+        had = h;
+        n = m;
     }
     sum_of(n)
 }
@@ -313,20 +285,16 @@ fn fill_sums(
     let mut left = c;
     let mut n = sum;
     while 0 < left {
-        match add(n, d) {
-            Sum::Is(m) => {
-                values[i] = sum_of(m);
-                present[i] = 1;
-                i += 1;
-                left -= 1;
-                n = m;
-            }
-            Sum::Outside => {
-                return Step::Off(6, q);
-            }
-        }
+        let Some(m) = add(n, d) else {
+            return Err(Refusal(Why::SumOutside, q));
+        };
+        values[i] = sum_of(m);
+        present[i] = 1;
+        i += 1;
+        left -= 1;
+        n = m;
     }
-    Step::On(next, had + c, n)
+    Ok((next, had + c, n))
 }
 
 // A repeated run of c differences, whose value stands at q, on the sum n.
@@ -347,10 +315,8 @@ fn fill_repeat(
     ensures wrote { Wrote (slot_of (pos 0)) flag_of (summing n (repeated had c q (i64_at s.now q))).readings had
         values.old values.new present.old present.new }
 {
-    match difference(table, s, q) {
-        ParsedI64::Number(d, next) => fill_sums(d, q, next, had, c, n, values, present),
-        ParsedI64::Refused(k, place) => Step::Off(k, place),
-    }
+    let (d, next) = difference(table, s, q)?;
+    fill_sums(d, q, next, had, c, n, values, present)
 }
 
 // c literal differences from q on, on the sum `sum`.
@@ -377,7 +343,7 @@ fn fill_literal(
     let mut n = sum;
     while 0 < left {
         match add_near(table, s, at, n) {
-            Near::To(m, next) => {
+            Some((m, next)) => {
                 values[i] = sum_of(m);
                 present[i] = 1;
                 at = next;
@@ -385,22 +351,18 @@ fn fill_literal(
                 left -= 1;
                 n = m;
             }
-            Near::Other => match add_at(table, s, at, n) {
-                Added::To(m, next) => {
-                    values[i] = sum_of(m);
-                    present[i] = 1;
-                    at = next;
-                    i += 1;
-                    left -= 1;
-                    n = m;
-                }
-                Added::Off(k, place) => {
-                    return Step::Off(k, place);
-                }
-            },
+            None => {
+                let (m, next) = add_at(table, s, at, n)?;
+                values[i] = sum_of(m);
+                present[i] = 1;
+                at = next;
+                i += 1;
+                left -= 1;
+                n = m;
+            }
         }
     }
-    Step::On(at, total, n)
+    Ok((at, total, n))
 }
 
 // The run at `at`, before which there are `had` readings and the sum n.
@@ -420,7 +382,7 @@ fn fill_run(
     ensures wrote { Wrote (slot_of (pos 0)) flag_of (delta_run s.now (sofar at had n)).readings had
         values.old values.new present.old present.new }
 {
-    match head_of(table, s, at, had) {
+    match head_of(table, s, at, had)? {
         Head::Repeat(c, q) => fill_repeat(table, s, q, had, c, n, values, present),
         Head::Literal(c, q) => fill_literal(
             table,
@@ -435,9 +397,8 @@ fn fill_run(
         ),
         Head::Absent(c, next) => {
             fill_absent(values, present, had as usize, c);
-            Step::On(next, had + c, n)
+            Ok((next, had + c, n))
         }
-        Head::Refused(k, place) => Step::Off(k, place),
     }
 }
 
@@ -453,18 +414,12 @@ fn fill(s: &[u8], values: &mut [i64], present: &mut [u8]) -> Answer
     let mut had: u64 = 0;
     let mut n: u64 = HALF;
     while at < s.len() {
-        match fill_run(&table, s, at, had, n, values, present) {
-            Step::On(next, h, m) => {
-                at = next;
-                had = h;
-                n = m;
-            }
-            Step::Off(k, place) => {
-                return Answer::Refused(k, place);
-            }
-        }
+        let (next, h, m) = fill_run(&table, s, at, had, n, values, present)?;
+        at = next;
+        had = h;
+        n = m;
     }
-    Answer::Done(had)
+    Ok(had)
 }
 
 // The whole column into lent slots.
@@ -473,17 +428,16 @@ pub fn decode(s: &[u8], values: &mut [i64], present: &mut [u8]) -> Answer
         values.old values.new present.old present.new (answer_of result) }
 {
     if values.len() != present.len() {
-        return Answer::Refused(8, 0);
+        return Err(Refusal(Why::BadList, 0));
     }
-    match count(s) {
-        Answer::Done(n) => {
-            if n <= values.len() as u64 {
-                fill(s, values, present)
-            } else {
-                Answer::Refused(9, 0)
-            }
-        }
-        Answer::Refused(k, place) => Answer::Refused(k, place),
+    let found = survey(s);
+    if let Some(fault) = found.fault {
+        return Err(fault);
+    }
+    if found.readings <= values.len() as u64 {
+        fill(s, values, present)
+    } else {
+        Err(Refusal(Why::TooFewSlots, 0))
     }
 }
 
@@ -493,12 +447,13 @@ pub fn keep(s: &[u8], values: &mut [i64], present: &mut [u8]) -> Answer
         values.old values.new present.old present.new (answer_of result) }
 {
     if values.len() != present.len() {
-        return Answer::Refused(8, 0);
+        return Err(Refusal(Why::BadList, 0));
     }
     let n = survey(s).readings;
     if n <= values.len() as u64 {
-        fill(s, values, present);
-        return Answer::Done(n);
+        // Its answer is the column's fault, which is none of this call's.
+        let _ = fill(s, values, present);
+        return Ok(n);
     }
-    Answer::Refused(9, 0)
+    Err(Refusal(Why::TooFewSlots, 0))
 }

@@ -1,5 +1,5 @@
 -- A delta column as the writer judges and writes it: one law for each way. Assumes nothing.
-use Prim.Native.Nat.{ℕ, ◌≤◌}
+use Prim.Native.Nat.{ℕ, ◌+◌, ◌≤◌}
 use mathlib.Core.Path.{◌≡◌, refl, sym, ◌∙◌, ap}
 use mathlib.Core.List.{List, []}
 use mathlib.Core.Option.{Option, none, some}
@@ -7,17 +7,27 @@ use mathlib.Core.Bool.{true, false}
 use native.Mathlib.Omega.{arith}
 use lib.IntN.{ℤ, pos}
 use lib.ListN.{length}
+use Rattle.std.specs.Prelude.{Result, Ok, Err, IsOk}
+use Rattle.refusal.specs.declared.Refusal.{Refusal}
 use Rattle.leb128.specs.Answer.{Answer, done, refused}
+use Rattle.leb128.specs.Write.{put_at}
+use Rattle.leb128_writer.specs.Cases.{written_of}
 use Rattle.encoding.specs.Given.{slot_list, list_judged}
 use Rattle.encoding.specs.Limit.{limit}
 use Rattle.encoding.specs.Ahead.{bytes_from}
 use Rattle.encoding.specs.Flags.{any_flag}
 use Rattle.encoding.specs.Writer.{column_bytes}
+use Rattle.encoding.proofs.Placing.{not-refused}
 use Rattle.encoding.proofs.Putting.{any-list, bytes-all, bytes-none, judged-good}
 use Rattle.delta_encoder.specs.Ahead.{diffs, Narrow}
 use Rattle.delta_decoder.specs.Difference.{i64_e}
 use Rattle.delta_encoder.specs.Differences.{differences, delta_bytes, wide_at, width_judged, delta_judged}
 use Rattle.delta_encoder.proofs.Differing.{diffs-list, flags, narrow}
+
+-- a number for which there is room is put
+pub put-ok : (out : List ℕ) (at : ℕ) (w : List ℕ) → at + length w ≤ length out → (r : Result ℕ Refusal) → written_of r ≡ put_at out at w → IsOk r
+put-ok out at w room (Ok next) e = refl
+put-ok out at w room (Err f) e = absurd (not-refused out at w room _ _ (sym e))
 
 module _ (v : List ℤ) (p : List ℕ) where
   pub judged-narrow : (n : ℕ) → list_judged (length v) p ≡ done n → wide_at 0 (differences (pos 0) (slot_list v p)) ≡ none → done n ≡ delta_judged v p

@@ -1,3 +1,2 @@
 pub mod Ahead
-pub mod Cases
 pub mod Differences

@@ -8,32 +8,24 @@ ghost use Rattle.std.proofs.lemmas.List.Edits.{sets};
 ghost use Rattle.std.proofs.Math.Seq.{slice};
 ghost use Rattle.leb128.specs.Write.{u64_bytes, i64_bytes};
 ghost use Rattle.encoding.specs.Ahead.{bytes_from, end_of, stretch_of, StretchAt, RepeatTo, LiteralTo, Paired, PutAt, AllPresent};
-ghost use Rattle.encoding.specs.Cases.{answer_of};
+ghost use Rattle.encoding.specs.Cases.{answer_of, maybe_of};
 ghost use Rattle.encoding.specs.Given.{slot_list, sized, Encoded};
 ghost use Rattle.encoding.specs.Limit.{limit};
 ghost use Rattle.encoding.specs.Writer.{all_bytes, stretch_bytes};
 ghost use Rattle.delta_encoder.specs.Ahead.{diffs, last_before, Narrow, Near};
-ghost use Rattle.delta_encoder.specs.Cases.{width_of};
 ghost use Rattle.delta_decoder.specs.Difference.{same_z, holds, i64_e};
 ghost use Rattle.delta_encoder.specs.Differences.{differences, delta_bytes, wide_at, delta_judged};
 
 use delta_decoder::sums::HALF;
 use encoding::{Answer, StretchEnd};
 use leb128::magnitude;
-use leb128_writer::Written;
+use refusal::{Refusal, Why};
 
 // What the first difference is taken from.
 const ORIGIN: i64 = 0;
 
 // Magnitudes below this are near to 0: two of them together are below HALF.
 const QUARTER: u64 = 4611686018427387904;
-
-// Does an i64 hold every difference of a list? If not, the index of the first that it does not hold.
-#[derive(Clone, Copy)]
-enum Width {
-    Narrow,
-    Wide(usize),
-}
 
 // Does an i64 hold v - last?
 fn is_held(v: i64, last: i64) -> bool
@@ -69,25 +61,26 @@ fn are_near(values: &[i64]) -> bool
     near
 }
 
-fn check_width(values: &[i64], present: &[u8]) -> Width
+// The index of the first value whose difference no i64 holds.
+fn check_width(values: &[i64], present: &[u8]) -> Option<usize>
     requires { length present.now ≡ length values.now }
-    ensures { width_of result ≡ wide_at 0 (differences (pos 0) (slot_list values.now present.now)) }
+    ensures { maybe_of result ≡ wide_at 0 (differences (pos 0) (slot_list values.now present.now)) }
 {
     if are_near(values) {
-        return Width::Narrow;
+        return None;
     }
     let mut last = ORIGIN;
     let mut k: usize = 0;
     while k < values.len() {
         if present[k] != 0 {
             if !is_held(values[k], last) {
-                return Width::Wide(k);
+                return Some(k);
             }
             last = values[k];
         }
         k += 1;
     }
-    Width::Narrow
+    None
 }
 
 // The index behind the differences that equal the one at i, before which `last` is the last value.
@@ -254,12 +247,10 @@ fn column_len(values: &[i64], present: &[u8]) -> usize
 fn judge(values: &[i64], present: &[u8]) -> Answer
     ensures { answer_of result ≡ delta_judged values.now present.now }
 {
-    match given_list::judge_list(values.len(), present) {
-        Answer::Done(n) => match check_width(values, present) {
-            Width::Narrow => Answer::Done(n),
-            Width::Wide(i) => Answer::Refused(7, i),
-        },
-        Answer::Refused(n, place) => Answer::Refused(n, place),
+    let n = given_list::judge_list(values.len(), present)?;
+    match check_width(values, present) {
+        Some(i) => Err(Refusal(Why::DifferenceOutside, i)),
+        None => Ok(n),
     }
 }
 
@@ -268,10 +259,8 @@ pub fn encoded_len(values: &[i64], present: &[u8]) -> Answer
     ensures { answer_of result ≡ sized (delta_bytes (slot_list values.now present.now))
         (delta_judged values.now present.now) }
 {
-    match judge(values, present) {
-        Answer::Done(_) => Answer::Done(column_len(values, present) as u64),
-        Answer::Refused(n, place) => Answer::Refused(n, place),
-    }
+    judge(values, present)?;
+    Ok(column_len(values, present) as u64)
 }
 
 // The numbers of a run where there is room for them; each gives the position behind it.
@@ -279,20 +268,14 @@ fn put_number(out: &mut [u8], at: usize, v: u64) -> usize
     requires { at + length (u64_bytes v) ≤ length out.old }
     ensures { PutAt out.old out.new at result (u64_bytes v) }
 {
-    match leb128_writer::put_u64(v, out, at) {
-        Written::Next(next) => next,
-        Written::Refused(_, place) => place,
-    }
+    leb128_writer::put_u64(v, out, at).unwrap()
 }
 
 fn put_signed(out: &mut [u8], at: usize, x: i64) -> usize
     requires { at + length (i64_bytes x) ≤ length out.old }
     ensures { PutAt out.old out.new at result (i64_bytes x) }
 {
-    match leb128_writer::put_i64(x, out, at) {
-        Written::Next(next) => next,
-        Written::Refused(_, place) => place,
-    }
+    leb128_writer::put_i64(x, out, at).unwrap()
 }
 
 // The differences from i up to k, before which `last` is the last value.
@@ -386,15 +369,11 @@ pub fn encode(values: &[i64], present: &[u8], out: &mut [u8]) -> Answer
     ensures { Encoded (delta_bytes (slot_list values.now present.now))
         (delta_judged values.now present.now) out.old out.new (answer_of result) }
 {
-    match encoded_len(values, present) {
-        Answer::Done(n) => {
-            if n <= out.len() as u64 {
-                put_column(values, present, out);
-                Answer::Done(n)
-            } else {
-                Answer::Refused(10, 0)
-            }
-        }
-        Answer::Refused(n, place) => Answer::Refused(n, place),
+    let n = encoded_len(values, present)?;
+    if n <= out.len() as u64 {
+        put_column(values, present, out);
+        Ok(n)
+    } else {
+        Err(Refusal(Why::OutputTooShort, 0))
     }
 }

@@ -11,13 +11,14 @@ ghost use Rattle.encoding.specs.Given.{given, slot_list};
 ghost use Rattle.encoding.specs.Slots.{slot_of, flag_of, Decoded};
 ghost use Rattle.delta_decoder.specs.Sums.{delta_trace};
 ghost use Rattle.splice.specs.Contract.{slot_in, OptionalSpliced};
-ghost use Rattle.splice.specs.Edit.{given_optional};
+ghost use Rattle.splice.specs.Edit.{given_optional, spliced_of};
 ghost use Rattle.splice.specs.Kinds.{delta};
 ghost use Rattle.splice.specs.Ready.{HasRow, Ready, Fits, Replaced, Good, Writable, put_behind, Finished};
 
 use block_frame::put_frame;
 use encoding::Answer;
-use splice::{ColumnKind, End, Found, Planned, Spliced};
+use refusal::Refusal;
+use splice::{ColumnKind, End, Found, Spliced};
 
 // A given reading's value in its slot: that of an absent one is 0 there, whatever was given.
 fn held_i64(v: i64, flag: u8) -> i64
@@ -54,8 +55,8 @@ fn replace_i64(
     requires { Fits start end old (length new.now) (length new_present.now) (length values.old) (length present.old) }
     ensures { Replaced (pos 0) old start end new.now new_present.now values.old values.new present.old present.new }
 {
-    slots_i64::splice_i64(values, old, start, end, new);
-    slots_u8::splice_u8(present, old, start, end, new_present);
+    let _ = slots::splice(values, old, start, end, new);
+    let _ = slots::splice(present, old, start, end, new_present);
     put_new_i64(values, start, new, new_present);
 }
 
@@ -73,7 +74,7 @@ fn fill_i64(values: &[i64], present: &[u8], out: &mut [u8], at: usize)
     requires { Writable delta (slot_list values.now present.now) (length values.now) present.now at (length out.old) }
     ensures { out.new ≡ put_behind at (delta.writes (slot_list values.now present.now)) out.old }
 {
-    delta_encoder::encode(values, present, &mut out[at..]);
+    let _ = delta_encoder::encode(values, present, &mut out[at..]);
 }
 
 // The new block around a column of so many bytes.
@@ -84,18 +85,14 @@ fn put_block_i64(
     values: &[i64],
     present: &[u8],
     out: &mut [u8],
-) -> Spliced
+) -> Result<Spliced, Refusal>
     requires has_row { HasRow block.now position }
     requires good { Good (length values.now) present.now }
     requires size_value { (size ≡ length (delta.writes (slot_list values.now present.now))) × (delta.wide (slot_list values.now present.now) ≡ none) }
-    ensures { Finished delta block.now position (slot_list values.now present.now) out.old out.new result }
+    ensures { Finished delta block.now position (slot_list values.now present.now) out.old out.new (spliced_of result) }
 {
-    let frame = put_frame(block, position, size, out);
-    if frame.number != 0 {
-        return splice::refused(frame.number, frame.place);
-    }
-    let at = frame.at;
-    fill_i64(values, present, out, at);
+    let frame = put_frame(block, position, size, out)?;
+    fill_i64(values, present, out, frame.at);
     splice::block_answer(out, frame.len, size, values.len())
 }
 
@@ -106,15 +103,13 @@ fn write_block_i64(
     values: &[i64],
     present: &[u8],
     out: &mut [u8],
-) -> Spliced
+) -> Result<Spliced, Refusal>
     requires has_row { HasRow block.now position }
     requires good { Good (length values.now) present.now }
-    ensures { Finished delta block.now position (slot_list values.now present.now) out.old out.new result }
+    ensures { Finished delta block.now position (slot_list values.now present.now) out.old out.new (spliced_of result) }
 {
-    match delta_encoder::encoded_len(values, present) {
-        Answer::Done(size) => put_block_i64(block, position, size as usize, values, present, out),
-        Answer::Refused(n, place) => splice::refused(n, place),
-    }
+    let size = delta_encoder::encoded_len(values, present)? as usize;
+    put_block_i64(block, position, size, values, present, out)
 }
 
 // The same for the slots' first `len`.
@@ -125,11 +120,11 @@ fn finish_i64(
     values: &[i64],
     present: &[u8],
     out: &mut [u8],
-) -> Spliced
+) -> Result<Spliced, Refusal>
     requires has_row { HasRow block.now position }
     requires len_in_bounds { (len ≤ length values.now) × (len ≤ length present.now) }
     requires good { Good (length (take len values.now)) (take len present.now) }
-    ensures { Finished delta block.now position (slot_list (take len values.now) (take len present.now)) out.old out.new result }
+    ensures { Finished delta block.now position (slot_list (take len values.now) (take len present.now)) out.old out.new (spliced_of result) }
 {
     write_block_i64(block, position, &values[..len], &present[..len], out)
 }
@@ -146,13 +141,13 @@ fn edit_i64(
     values: &mut [i64],
     present: &mut [u8],
     out: &mut [u8],
-) -> Spliced
+) -> Result<Spliced, Refusal>
     requires ready { Ready delta block.now position start end (length new.now) (length values.old) found.at found.till found.old found.len }
     requires new_present_value { given_optional (length values.old) (length present.old) (length new.now) new_present.now ≡ done 0 }
     ensures { OptionalSpliced delta (pos 0) block.now position start end new.now new_present.now
-        values.old values.new present.old present.new out.old out.new result }
+        values.old values.new present.old present.new out.old out.new (spliced_of result) }
 {
-    load_i64(block, found.at, found.till, values, present);
+    let _ = load_i64(block, found.at, found.till, values, present);
     let old = found.old;
     replace_i64(
         values,
@@ -177,11 +172,11 @@ pub fn splice_delta(
     values: &mut [i64],
     present: &mut [u8],
     out: &mut [u8],
-) -> Spliced
+) -> Result<Spliced, Refusal>
     ensures { OptionalSpliced delta (pos 0) block.now position start end new.now new_present.now
-        values.old values.new present.old present.new out.old out.new result }
+        values.old values.new present.old present.new out.old out.new (spliced_of result) }
 {
-    match splice::plan(
+    let found = splice::plan(
         block,
         position,
         ColumnKind::Delta,
@@ -191,19 +186,17 @@ pub fn splice_delta(
         new_present,
         values.len(),
         present.len(),
-    ) {
-        Planned::Ready(found) => edit_i64(
-            block,
-            position,
-            found,
-            start,
-            end,
-            new,
-            new_present,
-            values,
-            present,
-            out,
-        ),
-        Planned::Refused(n, place) => splice::refused(n, place),
-    }
+    )?;
+    edit_i64(
+        block,
+        position,
+        found,
+        start,
+        end,
+        new,
+        new_present,
+        values,
+        present,
+        out,
+    )
 }

@@ -9,9 +9,8 @@ use lib.ListN.{length, take, get_or}
 use Rattle.leb128.specs.Answer.{done}
 use Rattle.encoding.specs.Column.{value, trace}
 use Rattle.encoding.specs.Slots.{slot_of, flag_of}
-use Rattle.encoding.specs.Survivors.{survey_of}
+use Rattle.encoding.specs.Survivors.{survey_of, Surveyed}
 use Rattle.encoding.specs.Writer.{column_bytes}
-use Rattle.encoding.specs.declared.Survey.{Survey}
 use Rattle.encoding.proofs.Surveying.{survey-readings}
 use Rattle.delta_decoder.specs.Difference.{i64_e}
 use Rattle.delta_decoder.specs.Sums.{delta_trace}
@@ -25,7 +24,7 @@ use Rattle.salvage.proofs.Slots.{slots-list, kept-good}
 use Rattle.salvage.proofs.Summed.{sums-back}
 
 module _ (s : List ℕ) where
-  pub all-differences : (r : Survey) → r ≡ survey_of (delta_trace s) → rewritten_as values.Differences s r.readings ≡ delta_bytes (map value (delta_trace s).readings)
+  pub all-differences : (r : Surveyed) → r ≡ survey_of (delta_trace s) → rewritten_as values.Differences s r.readings ≡ delta_bytes (map value (delta_trace s).readings)
   unfolding rewritten rewritten_as delta_bytes delta_trace
   all-differences r e =
       ap (λ (n : ℕ). column_bytes i64_e (take n (map value (trace i64_e s).readings))) (survey-readings (delta_trace s) r e)

@@ -5,16 +5,20 @@ use mathlib.Core.Path.{◌≡◌, refl, sym, ◌∙◌, ap}
 use mathlib.Core.List.{[], ◌++◌}
 use native.Mathlib.Omega.{arith}
 use lib.ListN.{length, length-append}
+use Rattle.std.specs.Prelude.{Some, None}
+use Rattle.refusal.specs.Number as why
+use Rattle.refusal.specs.declared.Refusal.{Refusal}
+use Rattle.refusal.proofs.Numbered.{some}
 use Rattle.leb128.specs.Answer.{done, refused}
 use Rattle.encoding.specs.Walk.{Ending, sound, fault, Next, over, on, off, Trace, after, outcome_of, outcome}
-use Rattle.encoding.specs.Survivors.{surveyed, survey_of, surviving}
+use Rattle.encoding.specs.Survivors.{surveyed, survey_of, surviving, Surveyed, number_of, ending_of, seen}
 use Rattle.encoding.specs.declared.Survey.{Survey}
 use Rattle.encoding.proofs.Faults.{Numbered}
 use Rattle.encoding.proofs.Walking.{Machine, rest, rest-is}
 
 -- ---- while a column is walked: the survey of all of it, the readings before this state counted
 
-unfoldable pub surveys : {R S : Type 0} → Machine R S → S → Survey
+unfoldable pub surveys : {R S : Type 0} → Machine R S → S → Surveyed
 surveys M st = surveyed (M.had st + length (rest M st).readings) (rest M st).ending
 
 module _ {R S : Type 0} (M : Machine R S) where
@@ -50,12 +54,12 @@ module _ {R S : Type 0} (M : Machine R S) where
 
 -- ---- what the survey says of the outcome
 
-module _ {R : Type 0} (t : Trace R) (r : Survey) (e : r ≡ survey_of t) where
+module _ {R : Type 0} (t : Trace R) (r : Surveyed) (e : r ≡ survey_of t) where
   number_is : r.number ≡ (survey_of t).number
-  number_is = ap (λ (r : Survey). r.number) e
+  number_is = ap (λ (r : Surveyed). r.number) e
 
   pub survey-readings : r.readings ≡ length t.readings
-  survey-readings = ap (λ (r : Survey). r.readings) e
+  survey-readings = ap (λ (r : Surveyed). r.readings) e
 
   pub survey-sound : Numbered t.ending → r.number ≡ 0 → done r.readings ≡ outcome t
   unfolding outcome outcome_of
@@ -67,7 +71,7 @@ module _ {R : Type 0} (t : Trace R) (r : Survey) (e : r ≡ survey_of t) where
 
   pub survey-fault : (r.number ≡ 0 → ⊥) → refused r.number r.place ≡ outcome t
   unfolding outcome outcome_of
-  survey-fault h = ap (λ (s : Survey). refused s.number s.place) e ∙ go t.ending (λ z. h (number_is ∙ z))
+  survey-fault h = ap (λ (s : Surveyed). refused s.number s.place) e ∙ go t.ending (λ z. h (number_is ∙ z))
     where
       go : (x : Ending) → ((surveyed (length t.readings) x).number ≡ 0 → ⊥)
           → refused (surveyed (length t.readings) x).number (surveyed (length t.readings) x).place ≡ outcome_of (length t.readings) x
@@ -78,3 +82,14 @@ module _ {R : Type 0} (t : Trace R) (r : Survey) (e : r ≡ survey_of t) where
   pub survivors : outcome (surviving t) ≡ done r.readings
   unfolding outcome outcome_of
   survivors = ap done (sym survey-readings)
+
+-- ---- and what a survey of the code says of it
+
+module _ {R : Type 0} (t : Trace R) (r : Survey) (e : seen r ≡ survey_of t) where
+  pub survey-none : Numbered t.ending → r.fault ≡ None → done r.readings ≡ outcome t
+  survey-none h z = survey-sound t (seen r) e h (ap (λ f. number_of (ending_of f)) z)
+
+  pub survey-some : (f : Refusal) → r.fault ≡ Some f → refused (why.number_of f.0) f.1 ≡ outcome t
+  survey-some f z =
+      let k = ap (λ f. surveyed r.readings (ending_of f)) z in
+      survey-fault t (surveyed r.readings (ending_of (Some f))) (sym k ∙ e) (some f.0)

@@ -5,17 +5,10 @@ ghost use Rattle.std.specs.Prelude.{◌≡◌, ◌+◌, ◌≤◌, pos, drop};
 ghost use Rattle.std.proofs.Math.Option.{none};
 ghost use Rattle.encoding.specs.Given.{bad_flag, list_judged};
 ghost use Rattle.encoding.specs.Flags.{zeros, any_flag, minus};
-ghost use Rattle.encoding.specs.Cases.{answer_of};
-ghost use Rattle.given_list.specs.Cases.{flags_of};
+ghost use Rattle.encoding.specs.Cases.{answer_of, maybe_of};
 
 use encoding::{Answer, LIMIT};
-
-// Are all presence bytes 0 or 1? If not, the first that is not.
-#[derive(Clone, Copy)]
-enum Flags {
-    Good,
-    Bad(usize),
-}
+use refusal::{Refusal, Why};
 
 // The largest presence byte, 0 where there is none: no early way out, so that many bytes are looked at at once.
 fn largest(present: &[u8]) -> u8
@@ -33,20 +26,21 @@ fn largest(present: &[u8]) -> u8
     most
 }
 
-fn check_flags(present: &[u8]) -> Flags
-    ensures { flags_of result ≡ bad_flag 0 present.now }
+// The first presence byte that is not 0 or 1.
+fn check_flags(present: &[u8]) -> Option<usize>
+    ensures { maybe_of result ≡ bad_flag 0 present.now }
 {
     if largest(present) <= 1 {
-        return Flags::Good;
+        return None;
     }
     let mut k: usize = 0;
     while k < present.len() {
         if present[k] > 1 {
-            return Flags::Bad(k);
+            return Some(k);
         }
         k += 1;
     }
-    Flags::Good
+    None
 }
 
 // Is this a list: `len` values and as many presence bytes, each 0 or 1, within the limit? Its length, or the refusal.
@@ -54,17 +48,15 @@ pub fn judge_list(len: usize, present: &[u8]) -> Answer
     ensures { answer_of result ≡ list_judged len present.now }
 {
     if len != present.len() {
-        return Answer::Refused(8, 0);
+        return Err(Refusal(Why::BadList, 0));
     }
-    match check_flags(present) {
-        Flags::Good => {
-            if len as u64 <= LIMIT {
-                Answer::Done(len as u64)
-            } else {
-                Answer::Refused(5, 0)
-            }
-        }
-        Flags::Bad(i) => Answer::Refused(8, i),
+    if let Some(i) = check_flags(present) {
+        return Err(Refusal(Why::BadList, i));
+    }
+    if len as u64 <= LIMIT {
+        Ok(len as u64)
+    } else {
+        Err(Refusal(Why::TooMany, 0))
     }
 }
 

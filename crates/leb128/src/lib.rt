@@ -3,30 +3,16 @@
 
 ghost use Rattle.std.specs.Prelude.{◌≡◌, ◌+◌, ◌<◌, ◌≤◌, ◌^◌, length, get_or, pos, negsuc};
 ghost use Rattle.std.specs.Int.Signed.{mag};
-ghost use Rattle.leb128.specs.Cases.{u64_of, i64_of, u32_of};
+ghost use Rattle.leb128.specs.Cases.{parsed_of};
 ghost use Rattle.leb128.specs.Digits.{whole};
 ghost use Rattle.leb128.specs.Read.{signed, fill, u64_at, end_of, i64_at, u32_at, nonzero_at};
 ghost use Rattle.leb128.specs.Short.{short, entry_of, i64_by};
 ghost use Rattle.leb128.specs.Sound.{Sound};
 
-// A number and the position behind it; or a refusal's number and place.
-#[derive(Clone, Copy)]
-pub enum ParsedU64 {
-    Number(u64, usize),
-    Refused(u8, usize),
-}
+use refusal::{Refusal, Why};
 
-#[derive(Clone, Copy)]
-pub enum ParsedI64 {
-    Number(i64, usize),
-    Refused(u8, usize),
-}
-
-#[derive(Clone, Copy)]
-pub enum ParsedU32 {
-    Number(u32, usize),
-    Refused(u8, usize),
-}
+// A number and the position behind it (the crate's ParseResult).
+pub type Parsed<T> = Result<(T, usize), Refusal>;
 
 fn wide(b: u8) -> u64
     ensures { result ≡ b }
@@ -48,9 +34,9 @@ fn number_of(x: i8) -> i64
 }
 
 // A number of more than one byte, of which the first is at hand. What stands behind nine bytes ends it.
-fn long_u64(s: &[u8], at: usize, first: u8) -> ParsedU64
+fn long_u64(s: &[u8], at: usize, first: u8) -> Parsed<u64>
     requires { (at < length s.now) × (first ≡ get_or s.now at 0) × (128 ≤ first) }
-    ensures { u64_of result ≡ u64_at s.now at }
+    ensures { parsed_of result ≡ u64_at s.now at }
 {
     let mut low: u64 = wide(first - 128);
     let mut scale: u64 = 128;
@@ -60,36 +46,36 @@ fn long_u64(s: &[u8], at: usize, first: u8) -> ParsedU64
         let b = s[i];
         if count == 9 {
             if b == 1 {
-                return ParsedU64::Number(low + scale, i + 1);
+                return Ok((low + scale, i + 1));
             }
-            return ParsedU64::Refused(if b == 0 { 3 } else { 2 }, at);
+            return Err(Refusal(if b == 0 { Why::Overlong } else { Why::TooLarge }, at));
         }
         if b < 128 {
             if b == 0 {
-                return ParsedU64::Refused(3, at);
+                return Err(Refusal(Why::Overlong, at)); // a final 00
             }
-            return ParsedU64::Number(low + scale * wide(b), i + 1);
+            return Ok((low + scale * wide(b), i + 1));
         }
         low = low + scale * wide(b - 128);
         scale = scale * 128;
         count = count + 1;
         i = i + 1;
     }
-    ParsedU64::Refused(1, at)
+    Err(Refusal(Why::Cut, at)) // an unsigned number without its final byte
 }
 
 // The u64 at a position, or its refusal.
-pub fn leb128_u64(s: &[u8], at: usize) -> ParsedU64
-    ensures { u64_of result ≡ u64_at s.now at }
+pub fn leb128_u64(s: &[u8], at: usize) -> Parsed<u64>
+    ensures { parsed_of result ≡ u64_at s.now at }
 {
     if at < s.len() {
         let b = s[at];
         if b < 128 {
-            return ParsedU64::Number(wide(b), at + 1);
+            return Ok((wide(b), at + 1));
         }
         return long_u64(s, at, b);
     }
-    ParsedU64::Refused(21, s.len())
+    Err(Refusal(Why::NothingDue, s.len())) // no unsigned number begins
 }
 
 // The position behind a number of more than one byte; 0 where it is refused.
@@ -156,21 +142,21 @@ fn fill_of(b: u8) -> u8
 }
 
 // The signed number of ten bytes that begins at `at`. The last byte counts 2^63 times and only repeats the sign: exact at -2^63.
-fn tenth_i64(at: usize, low: u64, scale: u64, prev: u8, last: u8) -> ParsedI64
+fn tenth_i64(at: usize, low: u64, scale: u64, prev: u8, last: u8) -> Parsed<i64>
     requires sound { Sound low scale last 10 }
     requires at_bound { at + 10 < 2 ^ 64 }
-    ensures { i64_of result ≡ signed at at (whole low scale prev last 10) }
+    ensures { parsed_of result ≡ signed at at (whole low scale prev last 10) }
 {
     if last != fill_of(last) {
-        return ParsedI64::Refused(2, at);
+        return Err(Refusal(Why::TooLarge, at));
     }
     if last == fill_of(prev) {
-        return ParsedI64::Refused(3, at);
+        return Err(Refusal(Why::Overlong, at));
     }
     if last == 0 {
-        return ParsedI64::Number(up(low), at + 10);
+        return Ok((up(low), at + 10));
     }
-    ParsedI64::Number(down(scale - 1 - low), at + 10)
+    Ok((down(scale - 1 - low), at + 10))
 }
 
 // The mark that more bytes follow: no number of one byte.
@@ -203,9 +189,9 @@ pub fn short_numbers() -> [i8; 256]
 
 // A number of more than one byte, of which the first is at hand. Where bit 6 of the final byte is set, the sign is extended through all the bits
 // above it: the result is the complement of the complemented digits, exact at -1 and at -64.
-fn long_i64(s: &[u8], at: usize, first: u8) -> ParsedI64
+fn long_i64(s: &[u8], at: usize, first: u8) -> Parsed<i64>
     requires { (at < length s.now) × (first ≡ get_or s.now at 0) × (128 ≤ first) }
-    ensures { i64_of result ≡ i64_at s.now at }
+    ensures { parsed_of result ≡ i64_at s.now at }
 {
     let mut low: u64 = wide(first - 128);
     let mut scale: u64 = 128;
@@ -218,17 +204,17 @@ fn long_i64(s: &[u8], at: usize, first: u8) -> ParsedI64
             if b < 128 {
                 return tenth_i64(at, low, scale, prev, b);
             }
-            return ParsedI64::Refused(2, at);
+            return Err(Refusal(Why::TooLarge, at));
         }
         if b < 128 {
             if b == fill_of(prev) {
-                return ParsedI64::Refused(3, at);
+                return Err(Refusal(Why::Overlong, at));
             }
             let v = low + scale * wide(b);
             if b < 64 {
-                return ParsedI64::Number(up(v), i + 1);
+                return Ok((up(v), i + 1));
             }
-            return ParsedI64::Number(down(scale * 128 - 1 - v), i + 1);
+            return Ok((down(scale * 128 - 1 - v), i + 1));
         }
         low = low + scale * wide(b - 128);
         scale = scale * 128;
@@ -236,35 +222,35 @@ fn long_i64(s: &[u8], at: usize, first: u8) -> ParsedI64
         n = n + 1;
         i = i + 1;
     }
-    ParsedI64::Refused(1, at)
+    Err(Refusal(Why::Cut, at)) // a signed number without its final byte
 }
 
 // The i64 at a position, or its refusal, by its bytes alone: for the cursors, which read a number or two at a call and would make the table for each.
-pub fn i64_by_bytes(s: &[u8], at: usize) -> ParsedI64
-    ensures { i64_of result ≡ i64_at s.now at }
+pub fn i64_by_bytes(s: &[u8], at: usize) -> Parsed<i64>
+    ensures { parsed_of result ≡ i64_at s.now at }
 {
     if s.len() <= at {
-        return ParsedI64::Refused(21, s.len());
+        return Err(Refusal(Why::NothingDue, s.len()));
     }
     let first = s[at];
     if 128 <= first {
         return long_i64(s, at, first);
     }
     if first < 64 {
-        return ParsedI64::Number(up(wide(first)), at + 1);
+        return Ok((up(wide(first)), at + 1));
     }
-    ParsedI64::Number(down(wide(127 - first)), at + 1)
+    Ok((down(wide(127 - first)), at + 1))
 }
 
 // The i64 at a position, or its refusal: a number of one byte from the table that is lent.
-pub fn i64_by(table: &[i8; 256], s: &[u8], at: usize) -> ParsedI64
-    ensures { i64_of result ≡ i64_by table.now s.now at }
+pub fn i64_by(table: &[i8; 256], s: &[u8], at: usize) -> Parsed<i64>
+    ensures { parsed_of result ≡ i64_by table.now s.now at }
 {
     if at < s.len() {
         let b = place_of(s[at]);
         let x = table[b];
         if x != MORE {
-            return ParsedI64::Number(number_of(x), at + 1);
+            return Ok((number_of(x), at + 1));
         }
     }
     i64_by_bytes(s, at)
@@ -280,8 +266,8 @@ fn short_of(place: usize) -> i64
 
 // The i64 at a position, or its refusal: a number of one byte from the table. Its entry is asked for at two places, since a function that is called
 // once is built into its caller whole, and then this one, with the table in it, is too large to be built into anything.
-pub fn leb128_i64(s: &[u8], at: usize) -> ParsedI64
-    ensures { i64_of result ≡ i64_at s.now at }
+pub fn leb128_i64(s: &[u8], at: usize) -> Parsed<i64>
+    ensures { parsed_of result ≡ i64_at s.now at }
 {
     if at < s.len() {
         let b = s[at];
@@ -290,42 +276,31 @@ pub fn leb128_i64(s: &[u8], at: usize) -> ParsedI64
             return long_i64(s, at, b);
         }
         if place < 64 {
-            return ParsedI64::Number(short_of(place), at + 1);
+            return Ok((short_of(place), at + 1));
         }
-        return ParsedI64::Number(short_of(place), at + 1);
+        return Ok((short_of(place), at + 1));
     }
-    ParsedI64::Refused(21, s.len())
+    Err(Refusal(Why::NothingDue, s.len())) // no signed number begins
 }
 
 // The u32 at a position, read as a u64 first, or its refusal.
-pub fn leb128_u32(s: &[u8], at: usize) -> ParsedU32
-    ensures { u32_of result ≡ u32_at s.now at }
+pub fn leb128_u32(s: &[u8], at: usize) -> Parsed<u32>
+    ensures { parsed_of result ≡ u32_at s.now at }
 {
-    match leb128_u64(s, at) {
-        ParsedU64::Number(v, next) => {
-            if v <= 4294967295 {
-                ParsedU32::Number(v as u32, next)
-            } else {
-                ParsedU32::Refused(2, at)
-            }
-        }
-        ParsedU64::Refused(r, place) => ParsedU32::Refused(r, place),
+    let (v, next) = leb128_u64(s, at)?;
+    if v <= 4294967295 {
+        return Ok((v as u32, next));
     }
+    Err(Refusal(Why::TooLarge, at))
 }
 
-// The u64 at a position, which must not be 0, or its refusal. One of more than one byte never is.
-pub fn nonzero_leb128_u64(s: &[u8], at: usize) -> ParsedU64
-    ensures { u64_of result ≡ nonzero_at s.now at }
+// The u64 at a position, which must not be 0, or its refusal.
+pub fn nonzero_leb128_u64(s: &[u8], at: usize) -> Parsed<u64>
+    ensures { parsed_of result ≡ nonzero_at s.now at }
 {
-    if s.len() <= at {
-        return ParsedU64::Refused(21, s.len());
+    let (v, next) = leb128_u64(s, at)?;
+    if v == 0 {
+        return Err(Refusal(Why::Zero, at));
     }
-    let b = s[at];
-    if b == 0 {
-        return ParsedU64::Refused(4, at);
-    }
-    if b < 128 {
-        return ParsedU64::Number(wide(b), at + 1);
-    }
-    long_u64(s, at, b)
+    Ok((v, next))
 }

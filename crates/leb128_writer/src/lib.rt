@@ -8,13 +8,10 @@ ghost use Rattle.leb128.specs.Write.{group, encoded, u64_bytes, i64_bytes, put_a
 ghost use Rattle.leb128_writer.specs.Cases.{written_of};
 
 use leb128::magnitude;
+use refusal::{Refusal, Why};
 
-// The position behind what was written; or a refusal's number and place.
-#[derive(Clone, Copy)]
-pub enum Written {
-    Next(usize),
-    Refused(u8, usize),
-}
+// The position behind what was written.
+pub type Written = Result<usize, Refusal>;
 
 // How many bytes the encoding of v has, whose final byte has less than limit.
 fn encoded_len(limit: u64, v: u64) -> usize
@@ -62,13 +59,13 @@ fn put_encoded(limit: u64, neg: bool, v: u64, out: &mut [u8], at: usize) -> Writ
 {
     let n = encoded_len(limit, v);
     if out.len() < n {
-        return Written::Refused(10, 0);
+        return Err(Refusal(Why::OutputTooShort, 0));
     }
     if out.len() - n < at {
-        return Written::Refused(10, 0);
+        return Err(Refusal(Why::OutputTooShort, 0));
     }
     put_digits(limit, neg, v, out, at);
-    Written::Next(at + n)
+    Ok(at + n)
 }
 
 // How many bytes v takes.

@@ -1,10 +1,7 @@
 // Whether a column is in the form that our writer gives: its definitions and laws, and the answer.
 #![tactic(auto)]
 
-// In our form; in another, first differing at a place; or a refusal's number and place.
-#[derive(Clone, Copy)]
-pub enum Form {
-    Ours,
-    Other(usize),
-    Refused(u8, usize),
-}
+use refusal::Refusal;
+
+// None where a column is in our form, else the place at which it differs first; or the refusal.
+pub type Form = Result<Option<usize>, Refusal>;

@@ -1,6 +1,8 @@
 -- Whether an entry is good goes by the list's length alone: the same judgement over lengths. What the private functions that judge a log promise; no
 -- public promise cites it.
-use Rattle.std.specs.Prelude.{ℕ, ◌+◌, ◌-◌, List, [], ◌∷◌, cond, leb, length}
+use Rattle.std.specs.Prelude.{ℕ, ◌+◌, ◌-◌, List, [], ◌∷◌, cond, leb, length, Result, Ok, Err}
+use Rattle.refusal.specs.Number.{number_of}
+use Rattle.refusal.specs.declared.Refusal.{Refusal}
 use Rattle.leb128.specs.Answer.{Answer, done, refused}
 use Rattle.leb128.specs.Got.{Got, got, bad}
 use Rattle.encoding.specs.Limit.{limit}
@@ -8,8 +10,6 @@ use Rattle.encoding.specs.Walk.{Ending, Trace, outcome_of}
 use Rattle.pen_log.specs.Entry.{Entry, stands}
 use Rattle.pen_log.specs.Log.{Placed}
 use Rattle.pen_log.specs.Spans.{start_of, end_of, new_of}
-use Rattle.pen_log.specs.declared.Step.{Step}
-use Rattle.pen_log.specs.declared.Step.TheVariants as step
 
 -- how long a list of n readings is behind the entry
 abbrev pub length_after : Entry → ℕ → ℕ
@@ -45,6 +45,6 @@ abbrev pub judged_at : ℕ → ℕ → ℕ → Got Entry → Onward
 judged_at slots n at (got e next) = onward next (entry_judged slots n e at)
 judged_at slots n at (bad number place) = off number place
 
-abbrev pub onward_of : Step → Onward
-onward_of (step.On next m) = on next m
-onward_of (step.Off number place) = off number place
+abbrev pub onward_of : Result (ℕ × ℕ) Refusal → Onward
+onward_of (Ok (next, m)) = on next m
+onward_of (Err e) = off (number_of e.0) e.1

@@ -1,13 +1,13 @@
 -- An entry as a splice: a range of the list, and the readings that come in its place. What the private functions that follow a log pass on; no public
 -- promise cites it.
-use Rattle.std.specs.Prelude.{ℕ, ◌+◌, ◌≡◌, List, [], ◌∷◌, map, ℤ, pos, length, take}
+use Rattle.std.specs.Prelude.{ℕ, ◌+◌, ◌≡◌, List, [], ◌∷◌, map, ℤ, pos, length, take, Result, Ok, Err}
 use Rattle.std.proofs.Math.Option.{Option, none, some}
+use Rattle.refusal.specs.Number.{number_of}
+use Rattle.refusal.specs.declared.Refusal.{Refusal}
 use Rattle.leb128.specs.Got.{Got, got, bad}
 use Rattle.splice.specs.Contract.{slot_in, flag_in}
 use Rattle.pen_log.specs.Entry.{Entry, insert, insert_absent, remove, change}
 use Rattle.pen_log.specs.declared.Span.{Span}
-use Rattle.pen_log.specs.declared.Spanned.{Spanned}
-use Rattle.pen_log.specs.declared.Spanned.TheVariants as spanned
 
 abbrev pub start_of : Entry → ℕ
 start_of (insert i x) = i
@@ -40,6 +40,6 @@ pub record SpanOf (sp : Span) (g : Got Entry) : Type 0 where
   pub is : g ≡ got entry sp.next
   pub span : IsSpan sp entry
 
-abbrev pub Spans : Spanned → Got Entry → Type 0
-Spans (spanned.At sp) g = SpanOf sp g
-Spans (spanned.Refused number place) g = g ≡ bad number place
+abbrev pub Spans : Result Span Refusal → Got Entry → Type 0
+Spans (Ok sp) g = SpanOf sp g
+Spans (Err e) g = g ≡ bad (number_of e.0) e.1

@@ -17,23 +17,19 @@ ghost use Rattle.pen_log.specs.Spans.{Spans};
 
 use delta_decoder::sums::HALF;
 use encoding::{Answer, LIMIT};
+use refusal::{Refusal, Why};
 
-// An entry: its position, the depth where it has one, and the position of the log behind it; or refusal 23.
-#[derive(Clone, Copy)]
+// An entry: its position, the depth where it has one, and the position of the log behind it.
+#[derive(Clone, Copy, Debug, PartialEq, Eq)]
 pub enum LogEntry {
     Insert(u32, i64, usize),
     InsertAbsent(u32, usize),
     Remove(u32, usize),
     Change(u32, i64, usize),
-    Refused(u8, usize),
 }
 
-// How many readings the final list has, and how many bytes were written; or a refusal's number and place.
-#[derive(Clone, Copy)]
-pub enum Replayed {
-    Written(u64, usize),
-    Refused(u8, usize),
-}
+// How many readings the final list has, and how many bytes were written.
+pub type Replayed = Result<(u64, usize), Refusal>;
 
 // An entry as a splice: the readings from start up to end give way to as many new ones as `new` says, none or one.
 #[derive(Clone, Copy)]
@@ -46,18 +42,8 @@ struct Span {
     next: usize,
 }
 
-#[derive(Clone, Copy)]
-enum Spanned {
-    At(Span),
-    Refused(u8, usize),
-}
-
-// Behind an entry: the position in the log, and the list's length; or the refusal.
-#[derive(Clone, Copy)]
-enum Step {
-    On(usize, usize),
-    Off(u8, usize),
-}
+// Behind an entry: the position in the log, and the list's length.
+type Step = Result<(usize, usize), Refusal>;
 
 fn wide(b: u8) -> u64
     ensures { (result ≡ b) × (result < 256) }
@@ -97,61 +83,61 @@ fn depth(s: &[u8], at: usize) -> i64
 }
 
 // The entry at a position.
-pub fn entry_at(log: &[u8], at: usize) -> LogEntry
+pub fn entry_at(log: &[u8], at: usize) -> Result<LogEntry, Refusal>
     ensures { entry_of result ≡ entry_at log.now at }
 {
     if log.len() <= at {
-        return LogEntry::Refused(23, at);
+        return Err(Refusal(Why::BadEntry, at));
     }
     let left = log.len() - at;
     if left < 5 {
-        return LogEntry::Refused(23, at);
+        return Err(Refusal(Why::BadEntry, at));
     }
     let kind = log[at];
     let i = word(log, at + 1);
     if kind == 2 {
-        return LogEntry::InsertAbsent(i, at + 5);
+        return Ok(LogEntry::InsertAbsent(i, at + 5));
     }
     if kind == 3 {
-        return LogEntry::Remove(i, at + 5);
+        return Ok(LogEntry::Remove(i, at + 5));
     }
     if left < 13 {
-        return LogEntry::Refused(23, at);
+        return Err(Refusal(Why::BadEntry, at));
     }
     if kind == 1 {
-        return LogEntry::Insert(i, depth(log, at + 5), at + 13);
+        return Ok(LogEntry::Insert(i, depth(log, at + 5), at + 13));
     }
     if kind == 4 {
-        return LogEntry::Change(i, depth(log, at + 5), at + 13);
+        return Ok(LogEntry::Change(i, depth(log, at + 5), at + 13));
     }
-    LogEntry::Refused(23, at)
+    Err(Refusal(Why::BadEntry, at))
 }
 
-fn spanning(i: u32, taken: u8, new: usize, value: i64, flag: u8, next: usize) -> Spanned
-    ensures { result ≡ Spanned.At (record { start = i; end = i + taken; new = new; value = value; flag = flag; next = next }) }
+fn spanning(i: u32, taken: u8, new: usize, value: i64, flag: u8, next: usize) -> Span
+    ensures { result ≡ record { start = i; end = i + taken; new = new; value = value; flag = flag; next = next } }
 {
     let start = i as usize;
-    Spanned::At(Span {
+    Span {
         start: start,
         end: start + taken as usize,
         new: new,
         value: value,
         flag: flag,
         next: next,
-    })
+    }
 }
 
 // The entry at a position, as a splice.
-fn span_at(log: &[u8], at: usize) -> Spanned
+fn span_at(log: &[u8], at: usize) -> Result<Span, Refusal>
     ensures { Spans result (entry_at log.now at) }
 {
-    match entry_at(log, at) {
+    let entry = entry_at(log, at)?;
+    Ok(match entry {
         LogEntry::Insert(i, x, next) => spanning(i, 0, 1, x, 1, next),
         LogEntry::InsertAbsent(i, next) => spanning(i, 0, 1, 0, 0, next),
         LogEntry::Remove(i, next) => spanning(i, 1, 0, 0, 0, next),
         LogEntry::Change(i, x, next) => spanning(i, 1, 1, x, 1, next),
-        LogEntry::Refused(number, place) => Spanned::Refused(number, place),
-    }
+    })
 }
 
 // The entry at a position, over a list of so many readings in so many slots: 23, 5, 9, or how it goes on.
@@ -159,22 +145,18 @@ fn judge_entry(log: &[u8], at: usize, len: usize, slots: usize) -> Step
     requires { len ≤ limit }
     ensures { onward_of result ≡ judged_at slots len at (entry_at log.now at) }
 {
-    match span_at(log, at) {
-        Spanned::At(sp) => {
-            if len < sp.end {
-                return Step::Off(23, at);
-            }
-            let n = sp.start + sp.new + (len - sp.end);
-            if (LIMIT as usize) < n {
-                return Step::Off(5, 0);
-            }
-            if slots < n {
-                return Step::Off(9, 0);
-            }
-            Step::On(sp.next, n)
-        }
-        Spanned::Refused(number, place) => Step::Off(number, place),
+    let sp = span_at(log, at)?;
+    if len < sp.end {
+        return Err(Refusal(Why::BadEntry, at));
     }
+    let n = sp.start + sp.new + (len - sp.end);
+    if (LIMIT as usize) < n {
+        return Err(Refusal(Why::TooMany, 0));
+    }
+    if slots < n {
+        return Err(Refusal(Why::TooFewSlots, 0));
+    }
+    Ok((sp.next, n))
 }
 
 // Every entry of the log, over a list of so many readings in so many slots: the final list's length, or the first refusal.
@@ -185,17 +167,11 @@ fn judge_log(log: &[u8], old: usize, slots: usize) -> Answer
     let mut at: usize = 0;
     let mut len = old;
     while at < log.len() {
-        match judge_entry(log, at, len, slots) {
-            Step::On(next, n) => {
-                at = next;
-                len = n;
-            }
-            Step::Off(number, place) => {
-                return Answer::Refused(number, place);
-            }
-        }
+        let (next, n) = judge_entry(log, at, len, slots)?;
+        at = next;
+        len = n;
     }
-    Answer::Done(len as u64)
+    Ok(len as u64)
 }
 
 // One entry in slots that hold a list of `len` readings: the new list's length. What is behind the range is moved.
@@ -208,8 +184,8 @@ fn apply(values: &mut [i64], present: &mut [u8], len: usize, sp: Span) -> usize
     let start = sp.start;
     let end = sp.end;
     let new = sp.new;
-    slots_i64::splice_i64(values, len, start, end, &value[..new]);
-    slots_u8::splice_u8(present, len, start, end, &flag[..new]);
+    let _ = slots::splice(values, len, start, end, &value[..new]);
+    let _ = slots::splice(present, len, start, end, &flag[..new]);
     start + new + (len - end)
 }
 
@@ -223,11 +199,11 @@ fn follow(log: &[u8], old: usize, values: &mut [i64], present: &mut [u8]) -> usi
     let mut len = old;
     while at < log.len() {
         match span_at(log, at) {
-            Spanned::At(sp) => {
+            Ok(sp) => {
                 len = apply(values, present, len, sp);
                 at = sp.next;
             }
-            Spanned::Refused(_, _) => {
+            Err(_) => {
                 return len;
             }
         }
@@ -241,10 +217,8 @@ fn finish(values: &[i64], present: &[u8], len: usize, out: &mut [u8]) -> Replaye
     requires good { Good (length (take len values.now)) (take len present.now) }
     ensures { Finishes (list_in len values.now present.now) out.old out.new (told_of result) }
 {
-    match delta_encoder::encode(&values[..len], &present[..len], out) {
-        Answer::Done(size) => Replayed::Written(len as u64, size as usize),
-        Answer::Refused(number, place) => Replayed::Refused(number, place),
-    }
+    let size = delta_encoder::encode(&values[..len], &present[..len], out)?;
+    Ok((len as u64, size as usize))
 }
 
 // A log that was judged, over a column that was counted.
@@ -260,7 +234,7 @@ fn replay_good(
     ensures { Replays column.now log.now values.old values.new
         present.old present.new out.old out.new (told_of result) }
 {
-    delta_decoder::decode(column, values, present);
+    let _ = delta_decoder::decode(column, values, present);
     let len = follow(log, old, values, present);
     finish(values, present, len, out)
 }
@@ -278,18 +252,12 @@ pub fn replay(
         present.old present.new out.old out.new (told_of result) }
 {
     if values.len() != present.len() {
-        return Replayed::Refused(8, 0);
+        return Err(Refusal(Why::BadList, 0));
     }
-    match delta_decoder::count(column) {
-        Answer::Done(old) => {
-            if (values.len() as u64) < old {
-                return Replayed::Refused(9, 0);
-            }
-            match judge_log(log, old as usize, values.len()) {
-                Answer::Done(_) => replay_good(column, log, old as usize, values, present, out),
-                Answer::Refused(number, place) => Replayed::Refused(number, place),
-            }
-        }
-        Answer::Refused(number, place) => Replayed::Refused(number, place),
+    let old = delta_decoder::count(column)?;
+    if (values.len() as u64) < old {
+        return Err(Refusal(Why::TooFewSlots, 0));
     }
+    judge_log(log, old as usize, values.len())?;
+    replay_good(column, log, old as usize, values, present, out)
 }

@@ -18,16 +18,12 @@ use Rattle.cursor.proofs.Pieces.{weight, Gives}
 use Rattle.cursor.proofs.Taking as taking
 use Rattle.boolean_decoder.specs.Turns.{bool_trace}
 use Rattle.boolean_cursor.specs.TurnCursor.{TurnCursor, turning, byte_of, turn_step}
-use Rattle.boolean_cursor.specs.State.{cursor_of, kept, new_for, answer_for, told, step_of}
+use Rattle.boolean_cursor.specs.State.{cursor_of, kept, new_for, BooleanAnswer, Told, answer_for, told, step_of}
+use Rattle.boolean_cursor.specs.State as answer
 use Rattle.boolean_cursor.specs.declared.BooleanCursor.{BooleanCursor}
-use Rattle.boolean_cursor.specs.declared.BooleanStepped.{BooleanStepped}
-use Rattle.boolean_cursor.specs.declared.BooleanAnswer.{BooleanAnswer}
-use Rattle.boolean_cursor.specs.declared.BooleanAnswer.TheVariants as answer
 use Rattle.boolean_cursor.proofs.TurnCursors.{turn-same, TurnGiven, turn-given}
 use Rattle.boolean_cursor.proofs.Calls.{step_kept, nth-answer}
-use Rattle.pieces.specs.Boolean.{taken, past, took_of, piece_of}
-use Rattle.pieces.specs.declared.boolean.BooleanPiece.{BooleanPiece}
-use Rattle.pieces.specs.declared.boolean.BooleanTaken.{BooleanTaken}
+use Rattle.pieces.specs.Boolean.{BooleanPiece, BooleanTaken, taken, past, took_of, piece_of}
 
 -- a reading, and not an ending
 abbrev pub is_reading : BooleanAnswer → Bool
@@ -37,18 +33,18 @@ is_reading (answer.Refused number place) = false
 
 -- ---- the code
 
-pub took : (s : List ℕ) (k : BooleanCursor) {r : BooleanStepped} {a : BooleanAnswer} → r ≡ step_of s k → r.answer ≡ a → piece_of s k ≡ took_of r.cursor a
+pub took : (s : List ℕ) (k : BooleanCursor) {r : Told} {a : BooleanAnswer} → r ≡ step_of s k → r.answer ≡ a → piece_of s k ≡ took_of r.cursor a
 unfolding piece_of
-took s k {r} e h = ap (λ (r : BooleanStepped). took_of r.cursor r.answer) (sym e) ∙ ap (took_of r.cursor) h
+took s k {r} e h = ap (λ (r : Told). took_of r.cursor r.answer) (sym e) ∙ ap (took_of r.cursor) h
 
-pub took-counted : (s : List ℕ) (k : BooleanCursor) {r : BooleanStepped} {flag n : ℕ} → r ≡ step_of s k → r.answer ≡ answer.Present flag → n ≡ suc r.cursor.left
+pub took-counted : (s : List ℕ) (k : BooleanCursor) {r : Told} {flag n : ℕ} → r ≡ step_of s k → r.answer ≡ answer.Present flag → n ≡ suc r.cursor.left
     → piece_of s k ≡ taken (past r.cursor) (answer.Present flag) n
 took-counted s k {r} {flag} e h m = took s k e h ∙ ap (taken (past r.cursor) (answer.Present flag)) (sym m)
 
 -- ---- a step from any state, by what it gives
 
 module _ (s : List ℕ) (k : BooleanCursor) (b : ℕ) (m : limit ≤ b) (l : k.left ≤ b) where
-  by-step : (P : BooleanStepped → Type 0) → ((e : Ending) → P (told k (ends e)))
+  by-step : (P : Told → Type 0) → ((e : Ending) → P (told k (ends e)))
       → ((r : ℕ) (d : TurnCursor) → k.len ≡ length s → TurnGiven s b (cursor_of k) r d → P (told k (gives r d))) → P (step_of s k)
   unfolding step_of
   by-step P f g =
@@ -60,11 +56,11 @@ module _ (s : List ℕ) (k : BooleanCursor) (b : ℕ) (m : limit ≤ b) (l : k.l
       go (gives r d) w h = g r d w h
 
 -- one more than are left behind a reading is a u64
-pub left-fits : (s : List ℕ) (k : BooleanCursor) {r : BooleanStepped} → k.left < 2 ^ 64 → r ≡ step_of s k → is_reading r.answer ≡ true → r.cursor.left + 1 < 2 ^ 64
+pub left-fits : (s : List ℕ) (k : BooleanCursor) {r : Told} → k.left < 2 ^ 64 → r ≡ step_of s k → is_reading r.answer ≡ true → r.cursor.left + 1 < 2 ^ 64
 unfolding leaves said
 left-fits s k f e = subst P (sym e) (by-step s k (2 ^ 64 - 1) (omega arith) (omega arith) P over on)
   where
-    P : BooleanStepped → Type 0
+    P : Told → Type 0
     P r = is_reading r.answer ≡ true → r.cursor.left + 1 < 2 ^ 64
 
     over : (e : Ending) → P (told k (ends e))
@@ -154,21 +150,21 @@ module _ (s : List ℕ) where
         leads : (i : ℕ) → i < suc left → call (states i) ≡ states (suc i)
         leads zero l =
             let z : left ≡ left - 0 = omega arith in
-            ap (λ (x : BooleanStepped). x.cursor) e ∙ ap (λ (n : ℕ). kept n (turning at had left flag)) w ∙ ap (λ (n : ℕ). kept (length s) (turning at had n flag)) z
+            ap (λ (x : Told). x.cursor) e ∙ ap (λ (n : ℕ). kept n (turning at had left flag)) w ∙ ap (λ (n : ℕ). kept (length s) (turning at had n flag)) z
         leads (suc i) l =
             let z : left - i - 1 ≡ left - suc i = omega arith in
-            ap (λ (x : BooleanStepped). x.cursor) (run_step at had (left - i) flag v (omega arith)) ∙ ap (λ (n : ℕ). kept (length s) (turning at had n flag)) z
+            ap (λ (x : Told). x.cursor) (run_step at had (left - i) flag v (omega arith)) ∙ ap (λ (n : ℕ). kept (length s) (turning at had n flag)) z
 
         says : (i : ℕ) → i < suc left → answers (states i) ≡ answer.Present (byte_of flag)
-        says zero l = ap (λ (x : BooleanStepped). x.answer) e
-        says (suc i) l = ap (λ (x : BooleanStepped). x.answer) (run_step at had (left - i) flag v (omega arith))
+        says zero l = ap (λ (x : Told). x.answer) e
+        says (suc i) l = ap (λ (x : Told). x.answer) (run_step at had (left - i) flag v (omega arith))
 
   -- THE THEOREM: so many steps as a piece has times answer its reading each, and leave the state that it leaves
   pub stands : (k : BooleanCursor) → StandsAs k (piece_of s k)
   unfolding piece_of leaves said
   stands k = by-step s k (k.left + limit) (omega arith) (omega arith) P over on refl
     where
-      P : BooleanStepped → Type 0
+      P : Told → Type 0
       P x = step_of s k ≡ x → StandsAs k (took_of x.cursor x.answer)
 
       over : (e : Ending) → P (told k (ends e))
@@ -188,7 +184,7 @@ module _ (s : List ℕ) where
   unfolding piece_of leaves said
   piece-falls k = by-step s k (k.left + limit) (omega arith) (omega arith) P over on
     where
-      P : BooleanStepped → Type 0
+      P : Told → Type 0
       P x = is_reading x.answer ≡ true → weight_of (took_of x.cursor x.answer).cursor < weight_of k
 
       over : (e : Ending) → P (told k (ends e))
@@ -202,7 +198,7 @@ module _ (s : List ℕ) where
   unfolding piece_of leaves said
   piece-stays k = by-step s k (k.left + limit) (omega arith) (omega arith) P over on
     where
-      P : BooleanStepped → Type 0
+      P : Told → Type 0
       P x = is_reading x.answer ≡ false → (took_of x.cursor x.answer).cursor ≡ k
 
       over : (e : Ending) → P (told k (ends e))

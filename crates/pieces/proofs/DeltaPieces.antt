@@ -12,6 +12,7 @@ use lib.IntN.{ℤ, pos}
 use lib.ListN.{length}
 use lib.Dec.{eqb}
 use borrow.Author.Tests.{eq-eqb, ne_eqb}
+use Rattle.std.specs.Prelude as code
 use Rattle.encoding.specs.Limit.{limit}
 use Rattle.encoding.specs.Walk.{Ending, sound, fault}
 use Rattle.encoding.specs.Column.{Reading, absent, present}
@@ -28,14 +29,14 @@ use Rattle.delta_decoder.specs.Sums.{held_sum, delta_trace}
 use Rattle.delta_decoder.proofs.DifferenceLaws.{i64-laws}
 use Rattle.delta_cursor.specs.SumCursor.{summing, summed, add_step, delta_step}
 use Rattle.delta_cursor.specs.State.{cursor_of, kept_as, kept, new_for, answer_for, told, step_of}
+use Rattle.delta_cursor.specs.Cases.{answer_of, stepped_of}
 use Rattle.delta_cursor.specs.declared.DeltaCursor.{DeltaCursor}
-use Rattle.delta_cursor.specs.declared.DeltaStepped.{DeltaStepped}
-use Rattle.delta_cursor.specs.declared.DeltaAnswer.{DeltaAnswer}
-use Rattle.delta_cursor.specs.declared.DeltaAnswer.TheVariants as answer
+use Rattle.delta_cursor.specs.declared.DeltaStepped as stepped
+use Rattle.delta_cursor.specs.Answer.{DeltaAnswer, DeltaStepped}
+use Rattle.delta_cursor.specs.Answer as answer
 use Rattle.delta_cursor.proofs.Calls.{kept_step_lem, nth-answer}
-use Rattle.pieces.specs.Delta.{plus_each, held_each, taken, past, repeating, standing, took_of, piece_of, reading_of, reading_at}
-use Rattle.pieces.specs.declared.delta.DeltaPiece.{DeltaPiece}
-use Rattle.pieces.specs.declared.delta.DeltaTaken.{DeltaTaken}
+use Rattle.pieces.specs.Cases.{delta_read}
+use Rattle.pieces.specs.Delta.{DeltaPiece, DeltaTaken, plus_each, held_each, taken, past, repeating, standing, took_of, piece_of, reading_of, reading_at}
 use Rattle.pieces.proofs.Repeating.{held-most, held-each, held-over}
 
 -- a reading, and not an ending
@@ -82,9 +83,23 @@ module _ (k : DeltaCursor) (a : DeltaAnswer) where
       ∙ ap (λ (z : ℤ). taken (past k (k.left - n) z) a k.difference (suc n)) (sym f)
       ∙ ap (taken (past k (k.left - n) z) a k.difference) (sym g)
 
+-- a reading that the code has is one
+pub read : (o : code.Option ℤ) → is_reading (answer_of (code.Ok (code.Some o))) ≡ true
+read (code.Some value) = refl
+read code.None = refl
+
 pub took : (s : List ℕ) (k : DeltaCursor) {r : DeltaStepped} {a : DeltaAnswer} → r ≡ step_of s k → r.answer ≡ a → piece_of s k ≡ took_of r.cursor a
 unfolding piece_of
 took s k {r} e h = ap (λ (r : DeltaStepped). took_of r.cursor r.answer) (sym e) ∙ ap (took_of r.cursor) h
+
+-- of a step in the code's types: a reading stands there, as the code's piece says
+read-stands : (k : DeltaCursor) (o : code.Option ℤ) → took_of k (answer_of (code.Ok (code.Some o))) ≡ standing k (delta_read o)
+read-stands k (code.Some value) = refl
+read-stands k code.None = refl
+
+pub took-read : (s : List ℕ) (k : DeltaCursor) {r : stepped.DeltaStepped} {o : code.Option ℤ} → stepped_of r ≡ step_of s k
+    → r.answer ≡ code.Ok (code.Some o) → piece_of s k ≡ standing r.cursor (delta_read o)
+took-read s k {r} {o} e h = took s k e (ap answer_of h) ∙ read-stands r.cursor o
 
 -- ---- a step from any state, by what it gives
 

@@ -10,6 +10,7 @@ use native.Mathlib.Omega.{arith}
 use lib.ListN.{length}
 use lib.Dec.{ltb}
 use borrow.Author.Tests.{lt-ltb, le-ltb}
+use Rattle.std.specs.Prelude.{Ok, Option, Some, None}
 use Rattle.encoding.specs.Limit.{limit}
 use Rattle.encoding.specs.Walk.{Ending, sound, fault}
 use Rattle.encoding.specs.Column.{Reading, absent, present, trace}
@@ -24,14 +25,14 @@ use Rattle.cursor.proofs.Taking as taking
 use Rattle.rle_decoder.specs.Word.{u64_e}
 use Rattle.rle_decoder.proofs.WordLaws.{u64-laws}
 use Rattle.rle_cursor.specs.State.{cursor_of, kept_as, kept, new_for, answer_for, told, step_of}
+use Rattle.rle_cursor.specs.Cases.{answer_of, stepped_of}
 use Rattle.rle_cursor.specs.declared.RleCursor.{RleCursor}
-use Rattle.rle_cursor.specs.declared.RleStepped.{RleStepped}
-use Rattle.rle_cursor.specs.declared.RleAnswer.{RleAnswer}
-use Rattle.rle_cursor.specs.declared.RleAnswer.TheVariants as answer
+use Rattle.rle_cursor.specs.declared.RleStepped as code
+use Rattle.rle_cursor.specs.Answer.{RleAnswer, RleStepped}
+use Rattle.rle_cursor.specs.Answer as answer
 use Rattle.rle_cursor.proofs.Calls.{kept_step_lem, nth-answer}
-use Rattle.pieces.specs.Rle.{taken, past, standing, took_of, piece_of}
-use Rattle.pieces.specs.declared.rle.RlePiece.{RlePiece}
-use Rattle.pieces.specs.declared.rle.RleTaken.{RleTaken}
+use Rattle.pieces.specs.Cases.{rle_read}
+use Rattle.pieces.specs.Rle.{RlePiece, RleTaken, taken, past, standing, took_of, piece_of}
 
 -- a reading, and not an ending
 abbrev pub is_reading : RleAnswer → Bool
@@ -50,9 +51,23 @@ module _ (k : RleCursor) (a : RleAnswer) where
   standing-again n l e =
       ap (λ (b : Bool). cond b (taken (past k) a (suc k.left)) (taken k a 1)) (lt-ltb k.sort 2 l) ∙ ap (taken (past k) a) (sym e)
 
+-- a reading that the code has is one
+pub read : (o : Option ℕ) → is_reading (answer_of (Ok (Some o))) ≡ true
+read (Some value) = refl
+read None = refl
+
 pub took : (s : List ℕ) (k : RleCursor) {r : RleStepped} {a : RleAnswer} → r ≡ step_of s k → r.answer ≡ a → piece_of s k ≡ took_of r.cursor a
 unfolding piece_of
 took s k {r} e h = ap (λ (r : RleStepped). took_of r.cursor r.answer) (sym e) ∙ ap (took_of r.cursor) h
+
+-- of a step in the code's types: a reading stands there, as the code's piece says
+read-stands : (k : RleCursor) (o : Option ℕ) → took_of k (answer_of (Ok (Some o))) ≡ standing k (rle_read o)
+read-stands k (Some value) = refl
+read-stands k None = refl
+
+pub took-read : (s : List ℕ) (k : RleCursor) {r : code.RleStepped} {o : Option ℕ} → stepped_of r ≡ step_of s k → r.answer ≡ Ok (Some o)
+    → piece_of s k ≡ standing r.cursor (rle_read o)
+took-read s k {r} {o} e h = took s k e (ap answer_of h) ∙ read-stands r.cursor o
 
 -- ---- a step from any state, by what it gives
 

@@ -1,10 +1,17 @@
 -- 02, [5], for boolean columns: the piece at a state, any state. It is the step's reading with those that are left behind it of the same count.
 use Rattle.std.specs.Prelude.{ℕ, suc, List}
-use Rattle.boolean_cursor.specs.State.{step_of}
+use Rattle.boolean_cursor.specs.State.{BooleanAnswer, step_of}
+use Rattle.boolean_cursor.specs.State as answer
 use Rattle.boolean_cursor.specs.declared.BooleanCursor.{BooleanCursor}
-use Rattle.boolean_cursor.specs.declared.BooleanAnswer.{BooleanAnswer}
-use Rattle.boolean_cursor.specs.declared.BooleanAnswer.TheVariants as answer
-use Rattle.pieces.specs.declared.boolean.BooleanTaken.{BooleanTaken}
+
+-- what a call answers and how many times that is read there, once at least; the end and a refusal no times; and the state behind it
+pub record BooleanPiece : Type 0 where
+  pub answer : BooleanAnswer
+  pub times : ℕ
+
+pub record BooleanTaken : Type 0 where
+  pub cursor : BooleanCursor
+  pub piece : BooleanPiece
 
 abbrev pub taken : BooleanCursor → BooleanAnswer → ℕ → BooleanTaken
 taken k a times = record { cursor = k; piece = record { answer = a; times = times } }

@@ -5,10 +5,19 @@ use Rattle.delta_decoder.specs.Sums.{held_sum}
 use Rattle.delta_decoder.specs.Sofar.{held_on}
 use Rattle.delta_cursor.specs.State.{step_of}
 use Rattle.delta_cursor.specs.declared.DeltaCursor.{DeltaCursor}
-use Rattle.delta_cursor.specs.declared.DeltaAnswer.{DeltaAnswer}
-use Rattle.delta_cursor.specs.declared.DeltaAnswer.TheVariants as answer
-use Rattle.pieces.specs.declared.delta.DeltaPiece.{DeltaPiece}
-use Rattle.pieces.specs.declared.delta.DeltaTaken.{DeltaTaken}
+use Rattle.delta_cursor.specs.Answer.{DeltaAnswer}
+use Rattle.delta_cursor.specs.Answer as answer
+
+-- what a call answers, by how much each reading behind it in the piece is larger, and how many there are, one at least; the end and a refusal have
+-- none; and the state behind it
+pub record DeltaPiece : Type 0 where
+  pub answer : DeltaAnswer
+  pub difference : ℤ
+  pub times : ℕ
+
+pub record DeltaTaken : Type 0 where
+  pub cursor : DeltaCursor
+  pub piece : DeltaPiece
 
 -- a sum with n times a difference
 unfoldable pub plus_each : ℤ → ℤ → ℕ → ℤ

@@ -1,3 +1,4 @@
 pub mod Boolean
+pub mod Cases
 pub mod Delta
 pub mod Rle

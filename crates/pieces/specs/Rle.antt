@@ -3,9 +3,17 @@
 use Rattle.std.specs.Prelude.{ℕ, suc, cond, List, ltb}
 use Rattle.rle_cursor.specs.State.{step_of}
 use Rattle.rle_cursor.specs.declared.RleCursor.{RleCursor}
-use Rattle.rle_cursor.specs.declared.RleAnswer.{RleAnswer}
-use Rattle.rle_cursor.specs.declared.RleAnswer.TheVariants as answer
-use Rattle.pieces.specs.declared.rle.RleTaken.{RleTaken}
+use Rattle.rle_cursor.specs.Answer.{RleAnswer}
+use Rattle.rle_cursor.specs.Answer as answer
+
+-- what a call answers and how many times that is read there, once at least; the end and a refusal no times; and the state behind it
+pub record RlePiece : Type 0 where
+  pub answer : RleAnswer
+  pub times : ℕ
+
+pub record RleTaken : Type 0 where
+  pub cursor : RleCursor
+  pub piece : RlePiece
 
 abbrev pub taken : RleCursor → RleAnswer → ℕ → RleTaken
 taken k a times = record { cursor = k; piece = record { answer = a; times = times } }

@@ -1,65 +1,58 @@
 // Boolean columns.
 ghost use Rattle.std.specs.Prelude.{◌≡◌};
-ghost use Rattle.pieces.specs.Boolean.{taken, piece_of};
+ghost use Rattle.pieces.specs.Boolean.{piece_of};
+ghost use Rattle.pieces.specs.Cases.{boolean_piece, boolean_taken};
 
-use boolean_cursor::{BooleanAnswer, BooleanCursor};
+use boolean_cursor::BooleanCursor;
+use refusal::Refusal;
 
-// The next reading and how many times it stands there, once at least; or the end or a refusal, with no times.
-#[derive(Clone, Copy)]
+// The next reading, 0 or 1, and how many times it stands there, once at least.
+#[derive(Clone, Copy, Debug, PartialEq, Eq)]
 pub struct BooleanPiece {
-    pub answer: BooleanAnswer,
+    pub flag: u8,
     pub times: u64,
 }
 
+// The next piece; none at the end of the column; or a refusal.
+pub type BooleanNext = Result<Option<BooleanPiece>, Refusal>;
+
 // The state behind a piece, and the piece.
-#[derive(Clone, Copy)]
+#[derive(Clone, Copy, Debug, PartialEq, Eq)]
 pub struct BooleanTaken {
     pub cursor: BooleanCursor,
-    pub piece: BooleanPiece,
-}
-
-// No reading: the end or a refusal.
-fn none_at(c: BooleanCursor, answer: BooleanAnswer) -> BooleanTaken
-    ensures { result ≡ taken c answer 0 }
-{
-    BooleanTaken {
-        cursor: c,
-        piece: BooleanPiece {
-            answer: answer,
-            times: 0,
-        },
-    }
+    pub piece: BooleanNext,
 }
 
 // The piece at a state, any state: a reading with all that is left of its count. The end and a refusal leave the state as it was.
 pub fn piece(column: &[u8], cursor: BooleanCursor) -> BooleanTaken
-    ensures { result ≡ piece_of column.now cursor }
+    ensures { boolean_taken result ≡ piece_of column.now cursor }
 {
     let r = boolean_cursor::step(column, cursor);
-    let c = r.cursor;
-    let a = r.answer;
-    match a {
-        BooleanAnswer::Present(flag) => BooleanTaken {
+    match r.answer {
+        Ok(Some(flag)) => BooleanTaken {
             cursor: BooleanCursor {
-                len: c.len,
-                at: c.at,
-                had: c.had,
                 left: 0,
-                flag: c.flag,
+                ..r.cursor
             },
-            piece: BooleanPiece {
-                answer: BooleanAnswer::Present(flag),
-                times: c.left + 1,
-            },
+            piece: Ok(Some(BooleanPiece {
+                flag: flag,
+                times: r.cursor.left + 1,
+            })),
         },
-        BooleanAnswer::End => none_at(c, BooleanAnswer::End),
-        BooleanAnswer::Refused(n, place) => none_at(c, BooleanAnswer::Refused(n, place)),
+        Ok(None) => BooleanTaken {
+            cursor: r.cursor,
+            piece: Ok(None),
+        },
+        Err(fault) => BooleanTaken {
+            cursor: r.cursor,
+            piece: Err(fault),
+        },
     }
 }
 
 // The next piece, the end or a refusal; the state is advanced in place.
-pub fn next_piece(column: &[u8], cursor: &mut BooleanCursor) -> BooleanPiece
-    ensures { (result ≡ (piece_of column.now cursor.old).piece)
+pub fn next_piece(column: &[u8], cursor: &mut BooleanCursor) -> BooleanNext
+    ensures { (boolean_piece result ≡ (piece_of column.now cursor.old).piece)
         × (cursor.new ≡ (piece_of column.now cursor.old).cursor) }
 {
     let r = piece(column, *cursor);

@@ -20,11 +20,10 @@ use Rattle.column_specification.specs.Key.{key}
 use Rattle.column_specification.specs.Specification.{compressed_of}
 use Rattle.encoding.proofs.Lists.{cond-by}
 use Rattle.raw_column.specs.Table.{Tab, tab, faulty, with_number, with_row, rows_at, in_order, plain, sum, judged, parse}
-use Rattle.raw_column.specs.Rows.{pad, starts_from, opened, empty_table, fault_of, Counted, Read}
-use Rattle.raw_column.specs.declared.Count.{Count}
+use Rattle.raw_column.specs.Rows.{pad, starts_from, opened, empty_table, fault_of, Taken}
 use Rattle.raw_column.specs.declared.Row.{Row}
 use Rattle.raw_column.specs.declared.Table.{Table}
-use Rattle.raw_column.specs.declared.Opened.{Opened}
+use Rattle.raw_column.specs.declared.TableAnswer.{TableAnswer}
 
 -- ---- by cases
 pub number_by : (P : Tab → Type 0) (m : Got ℕ) (k : ℕ → ℕ → Tab) → ((v next : ℕ) → m ≡ got v next → P (k v next))
@@ -202,14 +201,13 @@ filling-start s {at} {n} g o =
       summing = summing_start (length s);
     })
 
-module _ {s : List ℕ} {at n : ℕ} {t : Table} {p total i : ℕ} (g : Filling s at n t p total i) (h : i < n) {r : Row} (w : Read s p r) where
-  pub filling-turn : {more : ℕ} → r.number ≡ 0 → (more ≤ length s) × (more ≤ total + r.len) × (more < length s → more ≡ total + r.len)
+module _ {s : List ℕ} {at n : ℕ} {t : Table} {p total i : ℕ} (g : Filling s at n t p total i) (h : i < n) where
+  pub filling-turn : (r : Row) → Taken s p r → {more : ℕ} → (more ≤ length s) × (more ≤ total + r.len) × (more < length s → more ≡ total + r.len)
       → Filling s at n
       (record { specs = set t.specs i r.spec; starts = set t.starts i total; lens = set t.lens i r.len; rows = t.rows })
       r.next more (i + 1)
-  filling-turn {more} z a =
+  filling-turn r q {more} a =
       let v : i < 64 = omega (arith, g.few) in
-      let q = w.taken z in
       record {
         counted = g.counted;
         few = g.few;
@@ -340,53 +338,14 @@ rows_ok (suc n) s p h =
     (λ r place f. u64-fault s q r place f))
     (λ r place e. u32-fault s p r place e)
 
--- ---- count_of
-module _ (s : List ℕ) (r : Count) where
-  pub count-bad : {number place : ℕ} → u64_at s 0 ≡ bad number place → r.number ≡ number → r.place ≡ place → Counted s r
-  unfolding parse
-  count-bad {number} {place} e a b =
-      record {
-        taken = λ z. absurd (omega (arith, u64-fault s 0 number place e));
-        refused = λ z. rw (e, a, b);
-      }
-
-  pub count-11 : {n next : ℕ} → u64_at s 0 ≡ got n next → 64 < n → r.number ≡ 11 → r.place ≡ 0 → Counted s r
-  unfolding parse
-  count-11 {n} e h a b = record { taken = λ z. absurd (omega arith); refused = λ z. rw (e, lt-ltb 64 n h, a, b) }
-
-  pub count-good : r.number ≡ 0 → u64_at s 0 ≡ got r.rows r.next → r.rows ≤ 64 → Counted s r
-  count-good z e h = record { taken = λ _. (e, h); refused = λ w. absurd (w z) }
-
--- ---- row_at
-module _ (s : List ℕ) (p : ℕ) (r : Row) where
-  pub read-bad : {number place : ℕ} → u32_at s p ≡ bad number place → r.number ≡ number → r.place ≡ place → Read s p r
-  read-bad {number} {place} e a b =
-      record {
-        taken = λ z. absurd (omega (arith, u32-fault s p number place e));
-        refused = λ z k. rw (a, b) (row-bad s p e k);
-      }
-
-  module _ {spec q : ℕ} (e : u32_at s p ≡ got spec q) where
-    pub read-bad-len : {number place : ℕ} → u64_at s q ≡ bad number place → r.number ≡ number → r.place ≡ place → Read s p r
-    read-bad-len {number} {place} f a b =
-        record {
-          taken = λ z. absurd (omega (arith, u64-fault s q number place f));
-          refused = λ z k. rw (a, b) (row-bad-len s p e f k);
-        }
-
-    pub read-good : u64_at s q ≡ got r.len r.next → r.number ≡ 0 → r.spec ≡ spec → Read s p r
-    read-good f z a =
-        let k = u64-next s q r.len r.next f in
-        record { taken = λ _. (omega arith, k.1, rw a (row-good s p e f)); refused = λ w. absurd (w z) }
-
 -- ---- read_table: its ways out
 module _ {s : List ℕ} {n q : ℕ} {t : Table} {p total i : ℕ} (g : Filling s q n t p total i) where
   table-rows : judged (length s) (rows_at n s q) ≡ parse s
   unfolding parse
   table-rows = rw (g.counted, le-ltb 64 n g.few)
 
-  pub table-bad : i < n → {r : Row} → Read s p r → (r.number ≡ 0 → ⊥) → faulty r.number r.place ≡ parse s
-  table-bad k w z = ap (judged (length s)) (going-bad g.going k (w.refused z)) ∙ table-rows
+  pub table-bad : i < n → {number place : ℕ} → ((k : ℕ) → rows_at (suc k) s p ≡ faulty number place) → faulty number place ≡ parse s
+  table-bad k w = ap (judged (length s)) (going-bad g.going k w) ∙ table-rows
 
   -- the rows after the last turn
   module _ (m : n ≤ i) where
@@ -409,7 +368,7 @@ module _ {s : List ℕ} {n q : ℕ} {t : Table} {p total i : ℕ} (g : Filling s
     table-fault z = judging.0 z
 
     pub table-out : fault_of (take n t.specs) total (length s - p) ≡ 0
-        → ◌≡◌ {A = Opened} (record { table = t; number = 0; place = 0; start = p }) (opened (parse s))
+        → ◌≡◌ {A = TableAnswer} (record { table = t; number = 0; place = 0; start = p }) (opened (parse s))
     table-out z =
         let w = rw ended at g.summing in
         let a = rw ended at g.going.specs-free in
@@ -465,21 +424,21 @@ start_is k (len ∷ lens) zero h = omega arith
 start_is k (len ∷ lens) (suc i) h = let r = start_is (k + len) lens i (omega arith) in omega (arith, r)
 
 -- ---- what read_table's answer says to callers: a refusal, or an accepted table
-open-bad-case : (t : Tab) (o : Opened) → o ≡ opened t → (o.number ≡ 0 → ⊥) → t ≡ faulty o.number o.place
-open-bad-case (tab specs lens next) o e h = absurd (h (ap (λ (x : Opened). x.number) e))
-open-bad-case (faulty number place) o e h = sym (ap (λ (x : Opened). faulty x.number x.place) e)
+open-bad-case : (t : Tab) (o : TableAnswer) → o ≡ opened t → (o.number ≡ 0 → ⊥) → t ≡ faulty o.number o.place
+open-bad-case (tab specs lens next) o e h = absurd (h (ap (λ (x : TableAnswer). x.number) e))
+open-bad-case (faulty number place) o e h = sym (ap (λ (x : TableAnswer). faulty x.number x.place) e)
 
-pub open-bad : (s : List ℕ) {o : Opened} → o ≡ opened (parse s) → (o.number ≡ 0 → ⊥) → parse s ≡ faulty o.number o.place
+pub open-bad : (s : List ℕ) {o : TableAnswer} → o ≡ opened (parse s) → (o.number ≡ 0 → ⊥) → parse s ≡ faulty o.number o.place
 open-bad s {o} e h = open-bad-case (parse s) o e h
 
 -- its rows
-abbrev pub specs_of : Opened → List ℕ
+abbrev pub specs_of : TableAnswer → List ℕ
 specs_of o = take o.table.rows o.table.specs
 
-abbrev pub lens_of : Opened → List ℕ
+abbrev pub lens_of : TableAnswer → List ℕ
 lens_of o = take o.table.rows o.table.lens
 
-pub record Open (s : List ℕ) (o : Opened) : Type 0 where
+pub record Open (s : List ℕ) (o : TableAnswer) : Type 0 where
   pub is : parse s ≡ tab (specs_of o) (lens_of o) o.start
   pub small : o.table.rows ≤ 64
   pub specs_long : length o.table.specs ≡ 64
@@ -487,13 +446,13 @@ pub record Open (s : List ℕ) (o : Opened) : Type 0 where
   pub fills : o.start + sum (lens_of o) ≡ length s
   pub starts-are : (i : ℕ) → i < o.table.rows → get_or o.table.starts i 0 ≡ sum (take i (lens_of o))
 
-open-case : (s : List ℕ) (t : Tab) (o : Opened) → parse s ≡ t → ParseOk (length s) t → o ≡ opened t → o.number ≡ 0 → Open s o
+open-case : (s : List ℕ) (t : Tab) (o : TableAnswer) → parse s ≡ t → ParseOk (length s) t → o ≡ opened t → o.number ≡ 0 → Open s o
 open-case s (tab specs lens next) o p h e z =
-    let n : o.table.rows ≡ length specs = ap (λ (x : Opened). x.table.rows) e in
-    let a : o.table.specs ≡ pad specs = ap (λ (x : Opened). x.table.specs) e in
-    let b : o.table.lens ≡ pad lens = ap (λ (x : Opened). x.table.lens) e in
-    let t : o.table.starts ≡ pad (starts_from 0 lens) = ap (λ (x : Opened). x.table.starts) e in
-    let q : o.start ≡ next = ap (λ (x : Opened). x.start) e in
+    let n : o.table.rows ≡ length specs = ap (λ (x : TableAnswer). x.table.rows) e in
+    let a : o.table.specs ≡ pad specs = ap (λ (x : TableAnswer). x.table.specs) e in
+    let b : o.table.lens ≡ pad lens = ap (λ (x : TableAnswer). x.table.lens) e in
+    let t : o.table.starts ≡ pad (starts_from 0 lens) = ap (λ (x : TableAnswer). x.table.starts) e in
+    let q : o.start ≡ next = ap (λ (x : TableAnswer). x.start) e in
     let a' : specs_of o ≡ specs = rw (n, a) (take-pad (length specs) specs refl) in
     let b' : lens_of o ≡ lens = rw (n, b) (take-pad (length specs) lens h.1) in
     record {
@@ -507,13 +466,13 @@ open-case s (tab specs lens next) o p h e z =
           ∙ (let r = start_is 0 lens i (omega (arith, h.1, n)) in omega (arith, r)));
     }
 open-case s (faulty number place) o p h e z =
-    let f : o.number ≡ number = ap (λ (x : Opened). x.number) e in
+    let f : o.number ≡ number = ap (λ (x : TableAnswer). x.number) e in
     absurd (omega arith)
 
-pub open-good : (s : List ℕ) {o : Opened} → o ≡ opened (parse s) → o.number ≡ 0 → Open s o
+pub open-good : (s : List ℕ) {o : TableAnswer} → o ≡ opened (parse s) → o.number ≡ 0 → Open s o
 open-good s {o} e z = open-case s (parse s) o refl (parse-ok s) e z
 
-module _ {s : List ℕ} {o : Opened} (g : Open s o) where
+module _ {s : List ℕ} {o : TableAnswer} (g : Open s o) where
   pub rows_long : length (specs_of o) ≡ o.table.rows
   rows_long = length-take-le o.table.rows o.table.specs (omega (arith, g.small, g.specs_long))
 

@@ -2,11 +2,12 @@
 #![tactic(auto)]
 
 ghost use Rattle.std.specs.Prelude.{◌≡◌, ◌+◌, ◌<◌, ◌≤◌, length, take};
-ghost use Rattle.raw_column.specs.Table.{in_order, plain, parse, faulty};
-ghost use Rattle.raw_column.specs.Rows.{opened, empty_table, fault_of, Counted, Read};
+ghost use Rattle.raw_column.specs.Table.{in_order, plain, parse};
+ghost use Rattle.raw_column.specs.Rows.{opened, opened_of, empty_table, fault_of, fault_number, Counted, Read};
 
 use column_specification::ColumnSpec;
-use leb128::{ParsedU32, ParsedU64};
+use leb128::Parsed;
+use refusal::{Refusal, Why};
 
 // A table: each row's specification, where its column begins in the data, and its length; unused places are 0. The boundary hands it out as it is.
 #[repr(C)]
@@ -18,93 +19,49 @@ pub struct Table {
     pub rows: usize,
 }
 
-// A table and where the data behind it begin; or a refusal's number and place, and a table of no rows. The number is 0 where there is none.
-#[repr(C)]
+// A table and where the data behind it begin.
 #[derive(Clone, Copy)]
 pub struct Opened {
+    pub start: usize,
+    pub table: Table,
+}
+
+// The same for C: number and place of a refusal, with a table of no rows; 0 and 0 where there is none.
+#[repr(C)]
+#[derive(Clone, Copy)]
+pub struct TableAnswer {
     pub number: u8,
     pub place: usize,
     pub start: usize,
     pub table: Table,
 }
 
-// How many rows a table has, and where they begin; or a refusal.
-#[derive(Clone, Copy)]
-struct Count {
-    number: u8,
-    place: usize,
-    rows: usize,
-    next: usize,
+// A row, and the position behind it.
+#[derive(Clone, Copy, Debug, PartialEq, Eq)]
+pub struct Row {
+    pub spec: u32,
+    pub len: u64,
+    pub next: usize,
 }
 
-// A row, and the position behind it; or a refusal.
-#[derive(Clone, Copy)]
-struct Row {
-    number: u8,
-    place: usize,
-    spec: u32,
-    len: u64,
-    next: usize,
-}
-
-fn no_count(number: u8, place: usize) -> Count
-    ensures { (result.number ≡ number) × (result.place ≡ place) }
-{
-    Count {
-        number: number,
-        place: place,
-        rows: 0,
-        next: 0,
-    }
-}
-
-fn count_of(block: &[u8]) -> Count
+// How many rows a table has, and where they begin.
+fn count_of(block: &[u8]) -> Parsed<usize>
     ensures { Counted block.now result }
 {
-    match leb128::leb128_u64(block, 0) {
-        ParsedU64::Refused(number, place) => no_count(number, place),
-        ParsedU64::Number(value, next) => {
-            if 64 < value {
-                return no_count(11, 0);
-            }
-            Count {
-                number: 0,
-                place: 0,
-                rows: value as usize,
-                next: next,
-            }
-        }
+    let (value, next) = leb128::leb128_u64(block, 0)?;
+    if 64 < value {
+        return Err(Refusal(Why::TooManyColumns, 0));
     }
+    Ok((value as usize, next))
 }
 
-fn no_row(number: u8, place: usize) -> Row
-    ensures { (result.number ≡ number) × (result.place ≡ place) }
-{
-    Row {
-        number: number,
-        place: place,
-        spec: 0,
-        len: 0,
-        next: 0,
-    }
-}
-
-fn row_at(block: &[u8], p: usize) -> Row
+// The row at a position of a table.
+pub fn row_at(block: &[u8], p: usize) -> Result<Row, Refusal>
     ensures { Read block.now p result }
 {
-    match leb128::leb128_u32(block, p) {
-        ParsedU32::Refused(number, place) => no_row(number, place),
-        ParsedU32::Number(spec, next) => match leb128::leb128_u64(block, next) {
-            ParsedU64::Refused(number, place) => no_row(number, place),
-            ParsedU64::Number(len, after) => Row {
-                number: 0,
-                place: 0,
-                spec: spec,
-                len: len,
-                next: after,
-            },
-        },
-    }
+    let (spec, q) = leb128::leb128_u32(block, p)?;
+    let (len, next) = leb128::leb128_u64(block, q)?;
+    Ok(Row { spec, len, next })
 }
 
 fn in_order(specs: &[u32], n: usize) -> bool
@@ -149,24 +106,24 @@ fn capped(total: u64, len: u64, size: u64) -> u64
     total + len
 }
 
-// 12, 13, 14 or 15, of rows that were read; or 0.
-fn fault_of(specs: &[u32], n: usize, total: u64, room: u64) -> u8
+// Why rows that were read are refused, if they are.
+fn fault_of(specs: &[u32], n: usize, total: u64, room: u64) -> Option<Why>
     requires { n ≤ length specs.now }
-    ensures { result ≡ fault_of (take n specs.now) total room }
+    ensures { fault_number result ≡ fault_of (take n specs.now) total room }
 {
     if !in_order(specs, n) {
-        return 12;
+        return Some(Why::OutOfOrder);
     }
     if !is_plain(specs, n) {
-        return 13;
+        return Some(Why::Compressed);
     }
     if room < total {
-        return 14;
+        return Some(Why::ColumnsTooLong);
     }
     if total < room {
-        return 15;
+        return Some(Why::ColumnsTooShort);
     }
-    0
+    None
 }
 
 // A table whose places are all unused.
@@ -181,37 +138,18 @@ fn empty_table(rows: usize) -> Table
     }
 }
 
-fn refused(number: u8, place: usize) -> Opened
-    ensures { result ≡ opened (faulty number place) }
-{
-    let t = empty_table(0);
-    Opened {
-        number: number,
-        place: place,
-        start: 0,
-        table: t,
-    }
-}
-
 // The table of a block. Its rows are read into the table that is answered, so that no array goes from function to function.
-pub fn read_table(block: &[u8]) -> Opened
-    ensures { result ≡ opened (parse block.now) }
+pub fn read_table(block: &[u8]) -> Result<Opened, Refusal>
+    ensures { opened_of result ≡ opened (parse block.now) }
 {
-    let c = count_of(block);
-    if c.number != 0 {
-        return refused(c.number, c.place);
-    }
-    let n = c.rows;
+    let (n, first) = count_of(block)?;
     let size = block.len() as u64;
     let mut t = empty_table(n);
-    let mut p = c.next;
+    let mut p = first;
     let mut total: u64 = 0;
     let mut i: usize = 0;
     while i < n {
-        let row = row_at(block, p);
-        if row.number != 0 {
-            return refused(row.number, row.place);
-        }
+        let row = row_at(block, p)?;
         t.specs[i] = row.spec;
         t.starts[i] = total;
         t.lens[i] = row.len;
@@ -219,14 +157,29 @@ pub fn read_table(block: &[u8]) -> Opened
         p = row.next;
         i += 1;
     }
-    let number = fault_of(&t.specs, n, total, size - p as u64);
-    if number != 0 {
-        return refused(number, 0);
+    if let Some(why) = fault_of(&t.specs, n, total, size - p as u64) {
+        return Err(Refusal(why, 0));
     }
-    Opened {
-        number: 0,
-        place: 0,
-        start: p,
-        table: t,
+    Ok(Opened { start: p, table: t })
+}
+
+impl From<Result<Opened, Refusal>> for TableAnswer {
+    ghost from_gives = { λ r answer. answer ≡ opened_of r };
+
+    fn from(r: Result<Opened, Refusal>) -> TableAnswer {
+        match r {
+            Ok(o) => TableAnswer {
+                number: 0,
+                place: 0,
+                start: o.start,
+                table: o.table,
+            },
+            Err(Refusal(why, place)) => TableAnswer {
+                number: u8::from(why),
+                place: place,
+                start: 0,
+                table: empty_table(0),
+            },
+        }
     }
 }

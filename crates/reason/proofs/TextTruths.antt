@@ -14,7 +14,6 @@ use Rattle.leb128.specs.Read.{signed_of, s_large, s_long, unsigned, signed, u64_
 use Rattle.leb128.proofs.Laws.{u64-next}
 use Rattle.encoding.specs.Column.{Spot, trace}
 use Rattle.encoding.specs.Limit.{limit}
-use Rattle.encoding.specs.Walk.{fault}
 use Rattle.encoding.proofs.Columns.{columns}
 use Rattle.utf8.specs.Utf8.{is_utf8}
 use Rattle.text.specs.Text.{bytes_at, valued, text_at, text_e}

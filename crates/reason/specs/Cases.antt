@@ -1,4 +1,7 @@
 -- What each answer of the code stands for.
+use Rattle.std.specs.Prelude.{Option, Some, None, Result, Ok, Err}
+use Rattle.refusal.specs.Number.{number_of}
+use Rattle.refusal.specs.declared.Refusal.{Refusal}
 use Rattle.reason.specs.Columns as told
 use Rattle.reason.specs.Reason as spec
 use Rattle.reason.specs.declared.Count.{Count}
@@ -6,8 +9,6 @@ use Rattle.reason.specs.declared.Count.TheVariants as count
 use Rattle.reason.specs.declared.Facts.{Facts}
 use Rattle.reason.specs.declared.Facts.TheVariants as facts
 use Rattle.reason.specs.declared.Reason.{Reason}
-use Rattle.reason.specs.declared.Told.{Told}
-use Rattle.reason.specs.declared.Told.TheVariants as tells
 
 abbrev pub count_of : Count → spec.Count
 count_of count.Unread = spec.unread
@@ -23,8 +24,8 @@ facts_of (facts.Sum z d) = spec.sum z d
 abbrev pub reason_of : Reason → spec.Reason
 reason_of r =
     record {
-      number = r.number;
-      place = r.place;
+      number = number_of r.refusal.0;
+      place = r.refusal.1;
       run = r.run;
       begins = r.begins;
       count = count_of r.count;
@@ -32,7 +33,7 @@ reason_of r =
       facts = facts_of r.facts;
     }
 
-abbrev pub told_of : Told → told.Told
-told_of (tells.Because r) = told.because (reason_of r)
-told_of tells.Faultless = told.faultless
-told_of (tells.Refused number place) = told.refused number place
+abbrev pub told_of : Result (Option Reason) Refusal → told.Told
+told_of (Ok (Some r)) = told.because (reason_of r)
+told_of (Ok None) = told.faultless
+told_of (Err e) = told.refused (number_of e.0) e.1

@@ -4,8 +4,10 @@
 ghost use Rattle.std.specs.Prelude.{◌≡◌, drop};
 ghost use Rattle.reason.specs.Reason.{number_bytes};
 
+use refusal::Refusal;
+
 // The count at the byte where a run begins: none was read; or a sign and a number.
-#[derive(Clone, Copy)]
+#[derive(Clone, Copy, Debug, PartialEq, Eq)]
 pub enum Count {
     Unread,
     Plus(u64),
@@ -14,7 +16,7 @@ pub enum Count {
 
 // The facts that make a refusal true: how many bytes of the number at the place are there; a name's length, and how many bytes are there for it;
 // the readings before the run, and how many its count asks for; the sum before, and the delta.
-#[derive(Clone, Copy)]
+#[derive(Clone, Copy, Debug, PartialEq, Eq)]
 pub enum Facts {
     Bytes(u64),
     Name(u64, u64),
@@ -22,12 +24,11 @@ pub enum Facts {
     Sum(i64, i64),
 }
 
-// A column's fault by number and place; the run at fault by its index, the byte where it begins and the count there; the index of the reading at
+// A column's fault; the run at fault by its index, the byte where it begins and the count there; the index of the reading at
 // fault; and the facts.
-#[derive(Clone, Copy)]
+#[derive(Clone, Copy, Debug, PartialEq, Eq)]
 pub struct Reason {
-    pub number: u8,
-    pub place: usize,
+    pub refusal: Refusal,
     pub run: u64,
     pub begins: usize,
     pub count: Count,
@@ -35,13 +36,8 @@ pub struct Reason {
     pub facts: Facts,
 }
 
-// What a call over a column answers: the reason of its fault; that it has none; or a refusal of the call's own.
-#[derive(Clone, Copy)]
-pub enum Told {
-    Because(Reason),
-    Faultless,
-    Refused(u8, usize),
-}
+// What a call over a column answers: the reason of its fault, none of a sound one; or a refusal of the call's own.
+pub type Told = Result<Option<Reason>, Refusal>;
 
 // How many bytes of the number at a position are there: up to its final one, to the tenth, or to the end.
 pub fn number_bytes(s: &[u8], at: usize) -> u64

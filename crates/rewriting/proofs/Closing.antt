@@ -17,13 +17,14 @@ use borrow.Author.Tests.{le-leb, lt-leb, eq-eqb, ne_eqb}
 use Rattle.leb128.specs.Answer.{Answer, done, refused, within}
 use Rattle.leb128.specs.Write.{u64_bytes, i64_bytes}
 use Rattle.leb128.proofs.Laws.{u64-short, i64-short}
+use Rattle.std.specs.Prelude.{Some, None}
+use Rattle.std.specs.Prelude as code
 use Rattle.encoding.specs.Ahead.{alike}
 use Rattle.encoding.specs.Cases.{answer_of}
 use Rattle.encoding.specs.Flags.{minus}
 use Rattle.rewriting.specs.Cutter.{spending, literal_head, absent_run, Shut, shut, is_some, single_of, several_of, closing, closed_of, longer, turned, fed_of, finished_of}
-use Rattle.rewriting.specs.Values.{plain_e, held_in, is_value, Within, cut_of}
-use Rattle.runs.specs.declared.walk.Held.{Held}
-use Rattle.runs.specs.declared.walk.Held.TheVariants as held
+use Rattle.rewriting.specs.Values.{plain_e, held_in, Within, cut_of}
+use Rattle.runs.specs.Pieces.{Held}
 use Rattle.rewriting.specs.declared.cutter.Cutter.{Cutter}
 use Rattle.rewriting.proofs.Comparing.{within-value}
 
@@ -38,9 +39,6 @@ module _ (room n : ℕ) (u : Answer) where
     pub spent-within : k + n ≤ room → done (k + n) ≡ spending room n u
     unfolding within
     spent-within l = sym (ap (spending room n) e ∙ rw (le-leb (k + n) room l))
-
-  pub spent-refused : (number place : ℕ) → u ≡ refused number place → refused number place ≡ spending room n u
-  spent-refused number place e = sym (ap (spending room n) e)
 
 -- ---- counts
 
@@ -92,13 +90,13 @@ module _ (s : List ℕ) (room : ℕ) (on : Bool) (c : Cutter) where
   abbrev close_as : Held → Shut
   close_as h = closing plain_e room on (answer_of c.used) c.literals (held_in s h) c.times
 
-  pub closed-absent : {n : ℕ} {u : Answer} → c.held ≡ held.Absent → n ≡ absent_run c.times → u ≡ spending room n (answer_of c.used)
+  pub closed-absent : {n : ℕ} {u : Answer} → c.held ≡ None → n ≡ absent_run c.times → u ≡ spending room n (answer_of c.used)
       → shut u 0 ≡ closed_of plain_e room on (cut_of s c)
   unfolding closing
   closed-absent e f g =
       ap (λ (u : Answer). shut u 0) (g ∙ ap (λ (m : ℕ). spending room m (answer_of c.used)) f) ∙ ap close_as (sym e)
 
-  module _ (from till : ℕ) (e : c.held ≡ held.Value from till) (w : Within s c.held) where
+  module _ (from till : ℕ) (e : c.held ≡ Some (from, till)) (w : Within s c.held) where
     abbrev single_as : ℕ → Shut
     single_as size = single_of plain_e room on (answer_of c.used) c.literals size
 
@@ -127,9 +125,9 @@ module _ (s : List ℕ) (room : ℕ) (on : Bool) (c : Cutter) where
 
 -- ---- a reading fed
 
-some-value : (s : List ℕ) (h : Held) → is_value h ≡ is_some (held_in s h)
-some-value s held.Absent = refl
-some-value s (held.Value from till) = refl
+some-value : (s : List ℕ) (h : Held) → code.is_some h ≡ is_some (held_in s h)
+some-value s None = refl
+some-value s (Some (from, till)) = refl
 
 pub either-yes : (a b : Bool) → a ≡ true → a ≡ a || b
 either-yes true b e = refl
@@ -144,7 +142,7 @@ module _ (s : List ℕ) (room : ℕ) (c : Cutter) (h : Held) (n : ℕ) where
   unfolding fed_of
   fed-none e = ap (fed_of plain_e room (cut_of s c) (held_in s h)) (sym e)
 
-  module _ (f : n ≡ 0 → ⊥) {r : Bool} (g : r ≡ alike plain_e (held_in s c.held) (held_in s h)) {a : Bool} (i : a ≡ c.any || is_value h) where
+  module _ (f : n ≡ 0 → ⊥) {r : Bool} (g : r ≡ alike plain_e (held_in s c.held) (held_in s h)) {a : Bool} (i : a ≡ c.any || code.is_some h) where
     some-any : a ≡ c.any || is_some (held_in s h)
     some-any = i ∙ ap (λ (b : Bool). c.any || b) (some-value s h)
 
@@ -167,7 +165,7 @@ module _ (s : List ℕ) (room : ℕ) (c : Cutter) (h : Held) (n : ℕ) where
         ap (λ (b : Bool). record { used = answer_of c.used; any = b; literals = c.literals; held = held_in s c.held; times = c.times + n }) some-any
         ∙ sym (feeds n f e)
 
-    pub fed-other : r ≡ false → {on : Bool} → on ≡ is_value h → {d : Shut} → d ≡ closed_of plain_e room on (cut_of s c)
+    pub fed-other : r ≡ false → {on : Bool} → on ≡ code.is_some h → {d : Shut} → d ≡ closed_of plain_e room on (cut_of s c)
         → record { used = d.used; any = a; literals = d.literals; held = held_in s h; times = n } ≡ fed_of plain_e room (cut_of s c) (held_in s h) n
     fed-other e j {d} k =
         ap (λ (b : Bool). record { used = d.used; any = b; literals = d.literals; held = held_in s h; times = n }) some-any

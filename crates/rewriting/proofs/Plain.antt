@@ -1,6 +1,6 @@
 -- A list of values that can be written, and the list of their bytes, are written alike: no two such values have the same bytes, so the two lists are cut
 -- alike. And so a column's readings, written again. Assumes nothing.
-use Prim.Native.Nat.{ℕ, zero, suc, ◌+◌, ◌<◌}
+use Prim.Native.Nat.{ℕ, zero, suc, ◌<◌}
 use mathlib.Core.Path.{◌≡◌, refl, sym, ◌∙◌, ap}
 use mathlib.Core.List.{List, [], ◌∷◌, ◌++◌, map}
 use mathlib.Core.Option

@@ -1,6 +1,6 @@
 -- The values of a run-length column as the bytes that stand for them, whatever they are: our encoding is the only one that is read, so values are
 -- equal where their bytes are, and are written as they stand. Private functions promise by it; no public promise cites it.
-use Rattle.std.specs.Prelude.{ℕ, ◌+◌, ◌-◌, ◌≤◌, List, map, Bool, true, false, length, take, drop}
+use Rattle.std.specs.Prelude.{ℕ, ◌+◌, ◌-◌, ◌≤◌, List, map, true, length, take, drop, Some, None}
 use Rattle.std.proofs.Math.Option.{Option, none, some}
 use Rattle.leb128.specs.Got.{bad}
 use Rattle.encoding.specs.Cases.{answer_of}
@@ -8,8 +8,7 @@ use Rattle.encoding.specs.Element.{Element}
 use Rattle.encoding.specs.Column.{Reading, absent, present, spot, repeated, literals, trace_from}
 use Rattle.encoding.specs.Walk.{Trace, onward}
 use Rattle.text.specs.Text.{same_bytes}
-use Rattle.runs.specs.declared.walk.Held.{Held}
-use Rattle.runs.specs.declared.walk.Held.TheVariants as held
+use Rattle.runs.specs.Pieces.{Held}
 use Rattle.rewriting.specs.declared.cutter.Cutter.{Cutter}
 use Rattle.rewriting.specs.declared.cutter.Shut.{Shut}
 use Rattle.rewriting.specs.Cutter.{Cut}
@@ -26,17 +25,13 @@ bytes_in E (present a place) = some (E.write a)
 
 -- a reading that is held: the bytes of s from one position up to another
 abbrev pub held_in : List ℕ → Held → Option (List ℕ)
-held_in s held.Absent = none
-held_in s (held.Value from till) = some (take (till - from) (drop from s))
-
-abbrev pub is_value : Held → Bool
-is_value held.Absent = false
-is_value (held.Value from till) = true
+held_in s None = none
+held_in s (Some (from, till)) = some (take (till - from) (drop from s))
 
 -- it lies within
 abbrev pub Within : List ℕ → Held → Type 0
-Within s held.Absent = Unit {0}
-Within s (held.Value from till) = (from ≤ till) × (till ≤ length s)
+Within s None = Unit {0}
+Within s (Some (from, till)) = (from ≤ till) × (till ≤ length s)
 
 -- what is known of the list so far, as the code has it
 abbrev pub cut_of : List ℕ → Cutter → Cut (List ℕ)

@@ -1,19 +1,20 @@
 // The writer's cut of a list that comes a reading at a time, for its size: nothing is looked at twice, and nothing is kept but some numbers. A value
 // is known by where its bytes stand in the column.
-ghost use Rattle.std.specs.Prelude.{◌≡◌, ◌+◌, ◌-◌, ◌≤◌, length};
+ghost use Rattle.std.specs.Prelude.{◌≡◌, ◌+◌, ◌-◌, ◌≤◌, length, Some};
 ghost use Rattle.encoding.specs.Ahead.{alike};
 ghost use Rattle.encoding.specs.Cases.{answer_of};
 ghost use Rattle.encoding.specs.Limit.{limit};
 ghost use Rattle.text.specs.Text.{bytes_at, same_bytes};
 ghost use Rattle.rewriting.specs.Cutter.{spending, literal_head, absent_run, single_of, several_of, closed_of, fed_of, finished_of};
-ghost use Rattle.rewriting.specs.Values.{plain_e, held_in, is_value, Within, cut_of, shut_of};
+ghost use Rattle.rewriting.specs.Values.{plain_e, held_in, Within, cut_of, shut_of};
 
 use encoding::Answer;
+use refusal::{Refusal, Why};
 use runs::walk::Held;
 
 // What is known of the list so far: the bytes spent, or 10; whether a value came; how many values of a literal stretch are open, their bytes spent
 // but not their count; and the reading that is held, with how many times it came.
-#[derive(Clone, Copy)]
+#[derive(Clone, Copy, Debug, PartialEq, Eq)]
 pub(crate) struct Cutter {
     pub used: Answer,
     pub any: bool,
@@ -23,7 +24,7 @@ pub(crate) struct Cutter {
 }
 
 // What is open behind a reading that is closed.
-#[derive(Clone, Copy)]
+#[derive(Clone, Copy, Debug, PartialEq, Eq)]
 pub(crate) struct Shut {
     pub used: Answer,
     pub literals: u64,
@@ -33,18 +34,11 @@ pub(crate) struct Shut {
 pub(crate) fn spent(room: u64, n: u64, used: Answer) -> Answer
     ensures { answer_of result ≡ spending room n (answer_of used) }
 {
-    match used {
-        Answer::Done(k) => {
-            if room < k {
-                return Answer::Refused(10, 0);
-            }
-            if room - k < n {
-                return Answer::Refused(10, 0);
-            }
-            Answer::Done(k + n)
-        }
-        Answer::Refused(number, place) => Answer::Refused(number, place),
+    let k = used?;
+    if room < k || room - k < n {
+        return Err(Refusal(Why::OutputTooShort, 0));
     }
+    Ok(k + n)
 }
 
 // Are the bytes from a up to b those from c up to d?
@@ -58,11 +52,11 @@ fn same_parts(s: &[u8], a: usize, b: usize, c: usize, d: usize) -> bool
 // Is the reading that is held the value from `from` up to `till`?
 fn holds_value(s: &[u8], held: Held, from: usize, till: usize) -> bool
     requires { Within s.now held × (from ≤ till) × (till ≤ length s.now) }
-    ensures { result ≡ alike plain_e (held_in s.now held) (held_in s.now (Held.Value from till)) }
+    ensures { result ≡ alike plain_e (held_in s.now held) (held_in s.now (Some (from, till))) }
 {
     match held {
-        Held::Absent => false,
-        Held::Value(a, b) => same_parts(s, a, b, from, till),
+        None => false,
+        Some((a, b)) => same_parts(s, a, b, from, till),
     }
 }
 
@@ -72,11 +66,8 @@ fn same_held(s: &[u8], a: Held, b: Held) -> bool
     ensures { result ≡ alike plain_e (held_in s.now a) (held_in s.now b) }
 {
     match b {
-        Held::Absent => match a {
-            Held::Absent => true,
-            Held::Value(_, _) => false,
-        },
-        Held::Value(from, till) => holds_value(s, a, from, till),
+        None => a.is_none(),
+        Some((from, till)) => holds_value(s, a, from, till),
     }
 }
 
@@ -140,30 +131,18 @@ fn closed(s: &[u8], c: Cutter, on: bool, room: u64) -> Shut
     ensures result_value { shut_of result ≡ closed_of plain_e room on (cut_of s.now c) }
     ensures literals_bound { result.literals ≤ c.literals + c.times }
 {
-    let used = c.used;
-    let held = c.held;
-    match held {
-        Held::Absent => Shut {
-            used: spent(room, absent_run(c.times), used),
+    match c.held {
+        None => Shut {
+            used: spent(room, absent_run(c.times), c.used),
             literals: 0,
         },
-        Held::Value(from, till) => {
+        Some((from, till)) => {
             let size = (till - from) as u64;
             if c.times == 1 {
-                return single(on, used, c.literals, size, room);
+                return single(on, c.used, c.literals, size, room);
             }
-            several(used, c.literals, c.times, size, room)
+            several(c.used, c.literals, c.times, size, room)
         }
-    }
-}
-
-// Is a reading present?
-fn is_value(held: Held) -> bool
-    ensures { result ≡ is_value held }
-{
-    match held {
-        Held::Absent => false,
-        Held::Value(_, _) => true,
     }
 }
 
@@ -176,25 +155,22 @@ pub(crate) fn fed(s: &[u8], c: Cutter, held: Held, n: u64, room: u64) -> Cutter
     if n == 0 {
         return c;
     }
-    let before = c.held;
-    let on = is_value(held);
-    if same_held(s, before, held) {
-        let used = c.used;
+    let on = held.is_some();
+    if same_held(s, c.held, held) {
         return Cutter {
-            used: used,
+            used: c.used,
             any: c.any || on,
             literals: c.literals,
-            held: before,
+            held: c.held,
             times: c.times + n,
         };
     }
     let d = closed(s, c, on, room);
-    let used = d.used;
     Cutter {
-        used: used,
+        used: d.used,
         any: c.any || on,
         literals: d.literals,
-        held: held,
+        held,
         times: n,
     }
 }
@@ -208,5 +184,5 @@ pub(crate) fn finished(s: &[u8], c: Cutter, room: u64) -> Answer
         let d = closed(s, c, false, room);
         return d.used;
     }
-    Answer::Done(0)
+    Ok(0)
 }

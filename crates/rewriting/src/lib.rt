@@ -17,11 +17,12 @@ pub mod turns;
 
 use crate::cutter::{Cutter, fed, finished};
 use encoding::{Answer, Head};
+use refusal::Refusal;
 use runs::walk::Held;
-use runs::{ValueEnd, Values, value_end};
+use runs::{Values, value_end};
 
 // Behind some readings of a column: the position of the next run, the column's length where none follows, and how many readings came before it.
-#[derive(Clone, Copy)]
+#[derive(Clone, Copy, Debug, PartialEq, Eq)]
 struct Fed {
     cutter: Cutter,
     at: usize,
@@ -60,24 +61,22 @@ fn fed_literals(
     let total = had + n;
     let mut cutter = c;
     let mut at = q;
-    let mut i = had;
-    while i < total {
+    for i in had..total {
         if most <= i {
             return Fed {
-                cutter: cutter,
+                cutter,
                 at: s.len(),
                 had: i,
             };
         }
         match value_end(s, values, at) {
-            ValueEnd::At(next) => {
-                cutter = fed(s, cutter, Held::Value(at, next), 1, room);
+            Ok(next) => {
+                cutter = fed(s, cutter, Some((at, next)), 1, room);
                 at = next;
-                i += 1;
             }
-            ValueEnd::Refused(_, _) => {
+            Err(_) => {
                 return Fed {
-                    cutter: cutter,
+                    cutter,
                     at: s.len(),
                     had: i,
                 };
@@ -85,9 +84,9 @@ fn fed_literals(
         }
     }
     Fed {
-        cutter: cutter,
-        at: at,
-        had: i,
+        cutter,
+        at,
+        had: total,
     }
 }
 
@@ -109,21 +108,21 @@ fn fed_repeat(
     ensures kept_2 { Kept s.now result.cutter result.had × (result.had ≤ limit) × (q ≤ result.at) }
 {
     match value_end(s, values, q) {
-        ValueEnd::At(next) => Fed {
-            cutter: fed_same(s, c, Held::Value(q, next), n, most - had, room),
+        Ok(next) => Fed {
+            cutter: fed_same(s, c, Some((q, next)), n, most - had, room),
             at: next,
             had: had + n,
         },
-        ValueEnd::Refused(_, _) => Fed {
+        Err(_) => Fed {
             cutter: c,
             at: s.len(),
-            had: had,
+            had,
         },
     }
 }
 
 // How the run at `at` begins, by the fixed table.
-fn head_of(table: &[i8; 256], s: &[u8], at: usize, had: u64) -> Head
+fn head_of(table: &[i8; 256], s: &[u8], at: usize, had: u64) -> Result<Head, Refusal>
     requires { table.now ≡ short }
     ensures { head_of result ≡ head_at s.now at had }
 {
@@ -148,17 +147,17 @@ fn fed_run(
     ensures kept_2 { Kept s.now result.cutter result.had × (result.had ≤ limit) × (at < result.at) }
 {
     match head_of(table, s, at, had) {
-        Head::Repeat(n, q) => fed_repeat(s, values, c, q, had, n, most, room),
-        Head::Literal(n, q) => fed_literals(s, values, c, q, had, n, most, room),
-        Head::Absent(n, next) => Fed {
-            cutter: fed_same(s, c, Held::Absent, n, most - had, room),
+        Ok(Head::Repeat(n, q)) => fed_repeat(s, values, c, q, had, n, most, room),
+        Ok(Head::Literal(n, q)) => fed_literals(s, values, c, q, had, n, most, room),
+        Ok(Head::Absent(n, next)) => Fed {
+            cutter: fed_same(s, c, None, n, most - had, room),
             at: next,
             had: had + n,
         },
-        Head::Refused(_, _) => Fed {
+        Err(_) => Fed {
             cutter: c,
             at: s.len(),
-            had: had,
+            had,
         },
     }
 }
@@ -169,10 +168,10 @@ pub fn rewritten_len(s: &[u8], values: Values, most: u64, room: u64) -> Answer
 {
     let table = leb128::short_numbers();
     let mut cutter = Cutter {
-        used: Answer::Done(0),
+        used: Ok(0),
         any: false,
         literals: 0,
-        held: Held::Absent,
+        held: None,
         times: 0,
     };
     let mut at: usize = 0;

@@ -9,10 +9,9 @@ ghost use Rattle.rewriting.specs.Turned.{turns_of};
 
 use crate::cutter::spent;
 use encoding::{Answer, LIMIT};
-use leb128::ParsedU64;
 
 // What is known of the list so far: the bytes spent, or 10; the byte that is held, and how many times it came.
-#[derive(Clone, Copy)]
+#[derive(Clone, Copy, Debug, PartialEq, Eq)]
 struct Turner {
     used: Answer,
     flag: u8,
@@ -23,8 +22,7 @@ struct Turner {
 fn count_spent(c: Turner, room: u64) -> Answer
     ensures { answer_of result ≡ counting room (turns_of c) }
 {
-    let used = c.used;
-    spent(room, leb128_writer::len_u64(c.times) as u64, used)
+    spent(room, leb128_writer::len_u64(c.times) as u64, c.used)
 }
 
 // n readings of a byte.
@@ -37,16 +35,15 @@ fn turned(c: Turner, flag: u8, n: u64, room: u64) -> Turner
         return c;
     }
     if flag == c.flag {
-        let used = c.used;
         return Turner {
-            used: used,
-            flag: flag,
+            used: c.used,
+            flag,
             times: c.times + n,
         };
     }
     Turner {
         used: count_spent(c, room),
-        flag: flag,
+        flag,
         times: n,
     }
 }
@@ -56,7 +53,7 @@ fn turns_end(had: u64, c: Turner, room: u64) -> Answer
     ensures { answer_of result ≡ counted room had (turns_of c) }
 {
     if had == 0 {
-        return Answer::Done(0);
+        return Ok(0);
     }
     count_spent(c, room)
 }
@@ -66,7 +63,7 @@ pub fn rewritten_turns_len(s: &[u8], room: u64) -> Answer
     ensures { answer_of result ≡ within 10 room (done (length (rewritten_turns s.now))) }
 {
     let mut c = Turner {
-        used: Answer::Done(0),
+        used: Ok(0),
         flag: 0,
         times: 0,
     };
@@ -75,7 +72,7 @@ pub fn rewritten_turns_len(s: &[u8], room: u64) -> Answer
     let mut flag: u8 = 0;
     while at < s.len() {
         match leb128::leb128_u64(s, at) {
-            ParsedU64::Number(n, next) => {
+            Ok((n, next)) => {
                 if LIMIT - had < n {
                     return turns_end(had, c, room);
                 }
@@ -84,7 +81,7 @@ pub fn rewritten_turns_len(s: &[u8], room: u64) -> Answer
                 had += n;
                 flag = 1 - flag;
             }
-            ParsedU64::Refused(_, _) => {
+            Err(_) => {
                 return turns_end(had, c, room);
             }
         }

@@ -22,9 +22,8 @@ use Rattle.rle_decoder.specs.Word.{u64_e}
 use Rattle.rle_decoder.proofs.WordLaws.{u64-laws}
 use Rattle.rle_cursor.specs.State.{cursor_of, bare_at, kept_as, kept, new_for, answer_for, told, step_of}
 use Rattle.rle_cursor.specs.declared.RleCursor.{RleCursor}
-use Rattle.rle_cursor.specs.declared.RleStepped.{RleStepped}
-use Rattle.rle_cursor.specs.declared.RleAnswer.{RleAnswer}
-use Rattle.rle_cursor.specs.declared.RleAnswer.TheVariants as answer
+use Rattle.rle_cursor.specs.Answer.{RleAnswer, RleStepped}
+use Rattle.rle_cursor.specs.Answer as answer
 
 module _ (s : List ℕ) where
   -- a state that keeps a cursor within the column passes the check, and its step is the cursor's

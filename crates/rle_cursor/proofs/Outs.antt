@@ -1,6 +1,6 @@
 -- What a step answers and leaves, by each way out of the code. Assumes nothing.
 use Prim.Native.Nat.{ℕ, ◌-◌, ◌≤◌, ◌<◌}
-use mathlib.Core.Path.{◌≡◌, refl, ◌∙◌, ap}
+use mathlib.Core.Path.{◌≡◌, ◌∙◌, ap}
 use mathlib.Core.List.{List}
 use lib.ListN.{length}
 use Rattle.leb128.specs.Got.{Got, got, bad}
@@ -14,9 +14,8 @@ use Rattle.cursor.proofs.Keeping.{checked-passes, checked-other, checked-beyond,
 use Rattle.rle_decoder.specs.Word.{u64_e}
 use Rattle.rle_cursor.specs.State.{cursor_of, kept, told, step_of}
 use Rattle.rle_cursor.specs.declared.RleCursor.{RleCursor}
-use Rattle.rle_cursor.specs.declared.RleStepped.{RleStepped}
-use Rattle.rle_cursor.specs.declared.RleAnswer.{RleAnswer}
-use Rattle.rle_cursor.specs.declared.RleAnswer.TheVariants as answer
+use Rattle.rle_cursor.specs.Answer.{RleAnswer, RleStepped}
+use Rattle.rle_cursor.specs.Answer as answer
 
 -- a step that answers a, and leaves the state k
 abbrev out : RleCursor → RleAnswer → RleStepped

@@ -7,9 +7,8 @@ use Rattle.cursor.specs.Cursor.{Sort, same, literal, Cursor, cursor, fresh, step
 use Rattle.cursor.specs.Kept.{checked, sort_of, leaves}
 use Rattle.rle_decoder.specs.Word.{u64_e}
 use Rattle.rle_cursor.specs.declared.RleCursor.{RleCursor}
-use Rattle.rle_cursor.specs.declared.RleStepped.{RleStepped}
-use Rattle.rle_cursor.specs.declared.RleAnswer.{RleAnswer}
-use Rattle.rle_cursor.specs.declared.RleAnswer.TheVariants as answer
+use Rattle.rle_cursor.specs.Answer.{RleAnswer, RleStepped}
+use Rattle.rle_cursor.specs.Answer as answer
 
 -- the cursor that a state stands for
 abbrev pub cursor_of : RleCursor → Cursor ℕ

@@ -7,11 +7,11 @@ ghost use Rattle.leb128.specs.Read.{u64_at};
 ghost use Rattle.encoding.specs.Limit.{limit};
 ghost use Rattle.cursor.specs.Cursor.{carried, enter, one_literal, one};
 ghost use Rattle.rle_decoder.specs.Word.{u64_e};
-ghost use Rattle.rle_cursor.specs.Cases.{next_of};
+ghost use Rattle.rle_cursor.specs.Cases.{next_of, answer_of, stepped_of};
 ghost use Rattle.rle_cursor.specs.State.{bare_at, new_for, cursor_of, told, step_of};
 
 use encoding::Head;
-use leb128::ParsedU64;
+use refusal::{Refusal, Why};
 
 // The sorts of a run, as a state has them; any number above is LITERAL too.
 const ABSENT: u64 = 0;
@@ -22,7 +22,7 @@ const LITERAL: u64 = 2;
 
 // The state that the host keeps; any numbers are one.
 #[repr(C)]
-#[derive(Clone, Copy)]
+#[derive(Clone, Copy, Debug, PartialEq, Eq)]
 pub struct RleCursor {
     // The length of the column that it was made for.
     pub len: usize,
@@ -39,29 +39,18 @@ pub struct RleCursor {
     pub place: usize,
 }
 
-// The next reading, present with its value or absent; the end of the column; or a refusal's number and place.
-#[derive(Clone, Copy)]
-pub enum RleAnswer {
-    Present(u64),
-    Absent,
-    End,
-    Refused(u8, usize),
-}
+// The next reading, a value or none where it is absent; none of both at the end of the column; or a refusal.
+pub type RleAnswer = Result<Option<Option<u64>>, Refusal>;
 
 // The state behind a step, and what the step answers.
-#[derive(Clone, Copy)]
+#[derive(Clone, Copy, Debug, PartialEq, Eq)]
 pub struct RleStepped {
     pub cursor: RleCursor,
     pub answer: RleAnswer,
 }
 
-// A state that is reached; or the column is over, or has a fault, before it.
-#[derive(Clone, Copy)]
-enum Reached {
-    On(RleCursor),
-    Over,
-    Off(u8, usize),
-}
+// A state that is reached; none where the column is over before it; or its fault there.
+type Reached = Result<Option<RleCursor>, Refusal>;
 
 // The state in an absent or a literal run, which carries no value.
 fn bare(len: usize, at: usize, had: u64, left: u64, sort: u64) -> RleCursor
@@ -90,18 +79,16 @@ fn carried_at(column: &[u8], q: usize, had: u64, c: u64) -> Reached
     requires { had + c ≤ limit }
     ensures { next_of result ≡ carried had c q (u64_at column.now q) }
 {
-    match leb128::leb128_u64(column, q) {
-        ParsedU64::Number(v, next) => Reached::On(RleCursor {
-            len: column.len(),
-            at: next,
-            had: had + c,
-            left: c,
-            sort: REPEAT,
-            value: v,
-            place: q,
-        }),
-        ParsedU64::Refused(n, place) => Reached::Off(n, place),
-    }
+    let (v, next) = leb128::leb128_u64(column, q)?;
+    Ok(Some(RleCursor {
+        len: column.len(),
+        at: next,
+        had: had + c,
+        left: c,
+        sort: REPEAT,
+        value: v,
+        place: q,
+    }))
 }
 
 // Into the run at `at`, before which there are `had` readings.
@@ -110,29 +97,28 @@ fn entered_at(column: &[u8], at: usize, had: u64) -> Reached
 {
     let len = column.len();
     if len <= at {
-        return Reached::Over;
+        return Ok(None);
     }
-    match run_head::head_by_bytes(column, at, had) {
+    match run_head::head_by_bytes(column, at, had)? {
         Head::Repeat(c, q) => carried_at(column, q, had, c),
-        Head::Literal(c, q) => Reached::On(bare(len, q, had + c, c, LITERAL)),
-        Head::Absent(c, next) => Reached::On(bare(len, next, had + c, c, ABSENT)),
-        Head::Refused(n, place) => Reached::Off(n, place),
+        Head::Literal(c, q) => Ok(Some(bare(len, q, had + c, c, LITERAL))),
+        Head::Absent(c, next) => Ok(Some(bare(len, next, had + c, c, ABSENT))),
     }
 }
 
 // The literal value at c, in a call that was lent `lent`.
 fn literal_at(column: &[u8], lent: RleCursor, c: RleCursor) -> RleStepped
     requires { 0 < c.left }
-    ensures { result ≡ told lent (one_literal (cursor_of c) (u64_at column.now c.at)) }
+    ensures { stepped_of result ≡ told lent (one_literal (cursor_of c) (u64_at column.now c.at)) }
 {
     match leb128::leb128_u64(column, c.at) {
-        ParsedU64::Number(v, next) => RleStepped {
+        Ok((v, next)) => RleStepped {
             cursor: bare(lent.len, next, c.had, c.left - 1, LITERAL),
-            answer: RleAnswer::Present(v),
+            answer: Ok(Some(Some(v))),
         },
-        ParsedU64::Refused(n, place) => RleStepped {
+        Err(fault) => RleStepped {
             cursor: lent,
-            answer: RleAnswer::Refused(n, place),
+            answer: Err(fault),
         },
     }
 }
@@ -140,12 +126,12 @@ fn literal_at(column: &[u8], lent: RleCursor, c: RleCursor) -> RleStepped
 // One reading of the present run of c, in a call that was lent `lent`.
 fn one_of(column: &[u8], lent: RleCursor, c: RleCursor) -> RleStepped
     requires { 0 < c.left }
-    ensures { result ≡ told lent (one u64_e column.now (cursor_of c)) }
+    ensures { stepped_of result ≡ told lent (one u64_e column.now (cursor_of c)) }
 {
     if c.sort == ABSENT {
         return RleStepped {
             cursor: bare(lent.len, c.at, c.had, c.left - 1, ABSENT),
-            answer: RleAnswer::Absent,
+            answer: Ok(Some(None)),
         };
     }
     if c.sort == REPEAT {
@@ -160,7 +146,7 @@ fn one_of(column: &[u8], lent: RleCursor, c: RleCursor) -> RleStepped
         };
         return RleStepped {
             cursor: d,
-            answer: RleAnswer::Present(c.value),
+            answer: Ok(Some(Some(c.value))),
         };
     }
     literal_at(column, lent, c)
@@ -169,18 +155,18 @@ fn one_of(column: &[u8], lent: RleCursor, c: RleCursor) -> RleStepped
 // One step, from any state: the next reading, the end or a refusal, and the state behind it. Where nothing is left of the present run the next
 // one is entered, and those that add nothing are passed.
 pub fn step(column: &[u8], cursor: RleCursor) -> RleStepped
-    ensures { result ≡ step_of column.now cursor }
+    ensures { stepped_of result ≡ step_of column.now cursor }
 {
     if cursor.len != column.len() {
         return RleStepped {
             cursor: cursor,
-            answer: RleAnswer::Refused(24, 0),
+            answer: Err(Refusal(Why::BadCursor, 0)),
         };
     }
     if column.len() < cursor.at {
         return RleStepped {
             cursor: cursor,
-            answer: RleAnswer::Refused(24, 0),
+            answer: Err(Refusal(Why::BadCursor, 0)),
         };
     }
     if 0 < cursor.left {
@@ -189,19 +175,19 @@ pub fn step(column: &[u8], cursor: RleCursor) -> RleStepped
     let mut c = cursor;
     while c.left == 0 {
         match entered_at(column, c.at, c.had) {
-            Reached::On(d) => {
+            Ok(Some(d)) => {
                 c = d;
             }
-            Reached::Over => {
+            Ok(None) => {
                 return RleStepped {
                     cursor: cursor,
-                    answer: RleAnswer::End,
+                    answer: Ok(None),
                 };
             }
-            Reached::Off(n, place) => {
+            Err(fault) => {
                 return RleStepped {
                     cursor: cursor,
-                    answer: RleAnswer::Refused(n, place),
+                    answer: Err(fault),
                 };
             }
         }
@@ -211,7 +197,7 @@ pub fn step(column: &[u8], cursor: RleCursor) -> RleStepped
 
 // The next reading, the end or a refusal; the state is advanced in place.
 pub fn next(column: &[u8], cursor: &mut RleCursor) -> RleAnswer
-    ensures { (result ≡ (step_of column.now cursor.old).answer)
+    ensures { (answer_of result ≡ (step_of column.now cursor.old).answer)
         × (cursor.new ≡ (step_of column.now cursor.old).cursor) }
 {
     let r = step(column, *cursor);

@@ -11,23 +11,19 @@ ghost use Rattle.encoding.specs.Column.{spot, repeated, literals, run_at, trace}
 ghost use Rattle.encoding.specs.Head.{head_at};
 ghost use Rattle.encoding.specs.Limit.{limit};
 ghost use Rattle.encoding.specs.Slots.{slot_of, flag_of, Decoded, Room, Wrote};
-ghost use Rattle.encoding.specs.Survivors.{survey_of, surviving};
+ghost use Rattle.encoding.specs.Survivors.{seen, survey_of, surviving};
 ghost use Rattle.encoding.specs.Walk.{outcome};
 ghost use Rattle.rle_decoder.specs.Cases.{step_of};
 ghost use Rattle.rle_decoder.specs.Word.{u64_e};
 
 use encoding::{Answer, Head, Survey};
-use leb128::ParsedU64;
+use refusal::{Refusal, Why};
 
 // Behind a run: the next position and how many readings came so far; or the run's fault.
-#[derive(Clone, Copy)]
-enum Step {
-    On(usize, u64),
-    Off(u8, usize),
-}
+type Step = Result<(usize, u64), Refusal>;
 
 // How the run at `at` begins, by the fixed table.
-fn head_of(table: &[i8; 256], s: &[u8], at: usize, had: u64) -> Head
+fn head_of(table: &[i8; 256], s: &[u8], at: usize, had: u64) -> Result<Head, Refusal>
     requires { table.now ≡ short }
     ensures { head_of result ≡ head_at s.now at had }
 {
@@ -39,10 +35,8 @@ fn scan_repeat(s: &[u8], q: usize, had: u64, c: u64) -> Step
     requires { had + c ≤ limit }
     ensures { step_of result ≡ (repeated had c q (u64_at s.now q)).next }
 {
-    match leb128::leb128_u64(s, q) {
-        ParsedU64::Number(_, next) => Step::On(next, had + c),
-        ParsedU64::Refused(n, place) => Step::Off(n, place),
-    }
+    let (_, behind) = leb128::leb128_u64(s, q)?;
+    Ok((behind, had + c))
 }
 
 // Are the 16 bytes from k on all numbers of one byte?
@@ -96,7 +90,7 @@ fn scan_literal(s: &[u8], q: usize, total: u64, c: u64) -> Step
         at = next;
         left -= 1;
     }
-    Step::On(at, total)
+    Ok((at, total))
 }
 
 // The run at `at`, before which there are `had` readings.
@@ -105,11 +99,10 @@ fn scan_run(table: &[i8; 256], s: &[u8], at: usize, had: u64) -> Step
     requires table_value { table.now ≡ short }
     ensures { step_of result ≡ (run_at u64_e s.now (spot at had)).next }
 {
-    match head_of(table, s, at, had) {
+    match head_of(table, s, at, had)? {
         Head::Repeat(c, q) => scan_repeat(s, q, had, c),
         Head::Literal(c, q) => scan_literal(s, q, had + c, c),
-        Head::Absent(c, next) => Step::On(next, had + c),
-        Head::Refused(n, place) => Step::Off(n, place),
+        Head::Absent(c, next) => Ok((next, had + c)),
     }
 }
 
@@ -121,11 +114,11 @@ fn read_literals(s: &[u8], q: usize, c: u64) -> u64
     let mut read: u64 = 0;
     while read < c {
         match leb128::leb128_u64(s, at) {
-            ParsedU64::Number(_, next) => {
+            Ok((_, next)) => {
                 at = next;
                 read += 1;
             }
-            ParsedU64::Refused(_, _) => {
+            Err(_) => {
                 return read;
             }
         }
@@ -141,43 +134,41 @@ fn read_run(table: &[i8; 256], s: &[u8], at: usize, had: u64) -> u64
     ensures result_bound { had + result ≤ limit }
 {
     match head_of(table, s, at, had) {
-        Head::Repeat(c, q) => match leb128::leb128_u64(s, q) {
-            ParsedU64::Number(_, _) => c,
-            ParsedU64::Refused(_, _) => 0,
+        Ok(Head::Repeat(c, q)) => match leb128::leb128_u64(s, q) {
+            Ok(_) => c,
+            Err(_) => 0,
         },
-        Head::Literal(c, q) => read_literals(s, q, c),
-        Head::Absent(c, _) => c,
-        Head::Refused(_, _) => 0,
+        Ok(Head::Literal(c, q)) => read_literals(s, q, c),
+        Ok(Head::Absent(c, _)) => c,
+        Err(_) => 0,
     }
 }
 
 // What survives of a column: how many readings before its first fault, and that fault.
 pub fn survey(s: &[u8]) -> Survey
-    ensures { result ≡ survey_of (trace u64_e s.now) }
+    ensures { seen result ≡ survey_of (trace u64_e s.now) }
 {
     let table = leb128::short_numbers();
     let mut at: usize = 0;
     let mut had: u64 = 0;
     while at < s.len() {
         match scan_run(&table, s, at, had) {
-            Step::On(next, n) => {
+            Ok((next, n)) => {
                 at = next;
                 had = n;
             }
-            Step::Off(number, place) => {
+            Err(fault) => {
                 let read = read_run(&table, s, at, had);
                 return Survey {
                     readings: had + read,
-                    number: number,
-                    place: place,
+                    fault: Some(fault),
                 };
             }
         }
     }
     Survey {
         readings: had,
-        number: 0,
-        place: 0,
+        fault: None,
     }
 }
 
@@ -186,10 +177,10 @@ pub fn count(s: &[u8]) -> Answer
     ensures { answer_of result ≡ outcome (trace u64_e s.now) }
 {
     let found = survey(s);
-    if found.number == 0 {
-        return Answer::Done(found.readings);
+    match found.fault {
+        None => Ok(found.readings),
+        Some(fault) => Err(fault),
     }
-    Answer::Refused(found.number, found.place)
 }
 
 // The same reading in c slots from `from` on.
@@ -216,13 +207,9 @@ fn fill_repeat(s: &[u8], q: usize, had: u64, c: u64, values: &mut [u64], present
     ensures wrote { Wrote (slot_of 0) flag_of (repeated had c q (u64_at s.now q)).readings had
         values.old values.new present.old present.new }
 {
-    match leb128::leb128_u64(s, q) {
-        ParsedU64::Number(v, next) => {
-            fill_same(values, present, had as usize, c, v, 1);
-            Step::On(next, had + c)
-        }
-        ParsedU64::Refused(number, place) => Step::Off(number, place),
-    }
+    let (v, next) = leb128::leb128_u64(s, q)?;
+    fill_same(values, present, had as usize, c, v, 1);
+    Ok((next, had + c))
 }
 
 // c literal values from q on.
@@ -244,20 +231,14 @@ fn fill_literal(
     let mut i = from;
     let mut left = c;
     while 0 < left {
-        match leb128::leb128_u64(s, at) {
-            ParsedU64::Number(v, next) => {
-                values[i] = v;
-                present[i] = 1;
-                at = next;
-                i += 1;
-                left -= 1;
-            }
-            ParsedU64::Refused(number, place) => {
-                return Step::Off(number, place);
-            }
-        }
+        let (word, next) = leb128::leb128_u64(s, at)?;
+        values[i] = word;
+        present[i] = 1;
+        at = next;
+        i += 1;
+        left -= 1;
     }
-    Step::On(at, total)
+    Ok((at, total))
 }
 
 // The run at `at`, before which there are `had` readings.
@@ -276,14 +257,13 @@ fn fill_run(
     ensures wrote { Wrote (slot_of 0) flag_of (run_at u64_e s.now (spot at had)).readings had
         values.old values.new present.old present.new }
 {
-    match head_of(table, s, at, had) {
+    match head_of(table, s, at, had)? {
         Head::Repeat(c, q) => fill_repeat(s, q, had, c, values, present),
         Head::Literal(c, q) => fill_literal(s, q, had + c, c, had as usize, values, present),
         Head::Absent(c, next) => {
             fill_same(values, present, had as usize, c, 0, 0);
-            Step::On(next, had + c)
+            Ok((next, had + c))
         }
-        Head::Refused(number, place) => Step::Off(number, place),
     }
 }
 
@@ -298,17 +278,11 @@ fn fill(s: &[u8], values: &mut [u64], present: &mut [u8]) -> Answer
     let mut at: usize = 0;
     let mut filled: u64 = 0;
     while at < s.len() {
-        match fill_run(&table, s, at, filled, values, present) {
-            Step::On(next, n) => {
-                at = next;
-                filled = n;
-            }
-            Step::Off(number, place) => {
-                return Answer::Refused(number, place);
-            }
-        }
+        let (next, n) = fill_run(&table, s, at, filled, values, present)?;
+        at = next;
+        filled = n;
     }
-    Answer::Done(filled)
+    Ok(filled)
 }
 
 // The whole column into lent slots.
@@ -317,18 +291,13 @@ pub fn decode(s: &[u8], values: &mut [u64], present: &mut [u8]) -> Answer
         values.old values.new present.old present.new (answer_of result) }
 {
     if values.len() != present.len() {
-        return Answer::Refused(8, 0);
+        return Err(Refusal(Why::BadList, 0));
     }
-    match count(s) {
-        Answer::Done(n) => {
-            if n <= values.len() as u64 {
-                fill(s, values, present)
-            } else {
-                Answer::Refused(9, 0)
-            }
-        }
-        Answer::Refused(n, place) => Answer::Refused(n, place),
+    let due = count(s)?;
+    if due <= values.len() as u64 {
+        return fill(s, values, present);
     }
+    Err(Refusal(Why::TooFewSlots, 0))
 }
 
 // What survives of a column into lent slots: 8, then 9 where too few are lent for it, else how many readings that is.
@@ -337,12 +306,12 @@ pub fn keep(s: &[u8], values: &mut [u64], present: &mut [u8]) -> Answer
         values.old values.new present.old present.new (answer_of result) }
 {
     if values.len() != present.len() {
-        return Answer::Refused(8, 0);
+        return Err(Refusal(Why::BadList, 0));
     }
     let n = survey(s).readings;
     if n <= values.len() as u64 {
-        fill(s, values, present);
-        return Answer::Done(n);
+        let _ = fill(s, values, present);
+        return Ok(n);
     }
-    Answer::Refused(9, 0)
+    Err(Refusal(Why::TooFewSlots, 0))
 }

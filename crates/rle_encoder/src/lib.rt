@@ -14,7 +14,7 @@ ghost use Rattle.encoding.specs.Writer.{all_bytes, stretch_bytes, column_bytes};
 ghost use Rattle.rle_decoder.specs.Word.{u64_e};
 
 use encoding::{Answer, StretchEnd};
-use leb128_writer::Written;
+use refusal::{Refusal, Why};
 
 // The index behind the values that equal the one at i.
 fn repeat_end(values: &[u64], present: &[u8], i: usize) -> usize
@@ -156,10 +156,8 @@ pub fn encoded_len(values: &[u64], present: &[u8]) -> Answer
     ensures { answer_of result ≡ sized (column_bytes u64_e (slot_list values.now present.now))
         (list_judged (length values.now) present.now) }
 {
-    match given_list::judge_list(values.len(), present) {
-        Answer::Done(_) => Answer::Done(column_len(values, present) as u64),
-        Answer::Refused(n, place) => Answer::Refused(n, place),
-    }
+    given_list::judge_list(values.len(), present)?;
+    Ok(column_len(values, present) as u64)
 }
 
 // The numbers of a run where there is room for them; each gives the position behind it.
@@ -168,8 +166,8 @@ fn put_number(out: &mut [u8], at: usize, v: u64) -> usize
     ensures { PutAt out.old out.new at result (u64_bytes v) }
 {
     match leb128_writer::put_u64(v, out, at) {
-        Written::Next(next) => next,
-        Written::Refused(_, place) => place,
+        Ok(next) => next,
+        Err(Refusal(_, place)) => place,
     }
 }
 
@@ -178,8 +176,8 @@ fn put_count(out: &mut [u8], at: usize, c: i64) -> usize
     ensures { PutAt out.old out.new at result (i64_bytes c) }
 {
     match leb128_writer::put_i64(c, out, at) {
-        Written::Next(next) => next,
-        Written::Refused(_, place) => place,
+        Ok(next) => next,
+        Err(Refusal(_, place)) => place,
     }
 }
 
@@ -249,15 +247,10 @@ pub fn encode(values: &[u64], present: &[u8], out: &mut [u8]) -> Answer
     ensures { Encoded (column_bytes u64_e (slot_list values.now present.now))
         (list_judged (length values.now) present.now) out.old out.new (answer_of result) }
 {
-    match encoded_len(values, present) {
-        Answer::Done(n) => {
-            if n <= out.len() as u64 {
-                put_column(values, present, out);
-                Answer::Done(n)
-            } else {
-                Answer::Refused(10, 0)
-            }
-        }
-        Answer::Refused(n, place) => Answer::Refused(n, place),
+    let n = encoded_len(values, present)?;
+    if n <= out.len() as u64 {
+        put_column(values, present, out);
+        return Ok(n);
     }
+    Err(Refusal(Why::OutputTooShort, 0))
 }

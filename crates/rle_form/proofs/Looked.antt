@@ -7,6 +7,7 @@ use mathlib.Core.Option.{Option, some}
 use mathlib.Core.Bool.{Bool, true, false}
 use native.Mathlib.Omega.{arith}
 use lib.ListN.{length, take, drop, replicate, length-append, length-drop}
+use Rattle.std.specs.Prelude.{None}
 use Rattle.encoding.specs.Ahead.{alike, Off, Closed, end_of}
 use Rattle.encoding.specs.Element.{Element}
 use Rattle.encoding.specs.Stretches.{stretches}
@@ -18,7 +19,6 @@ use Rattle.encoding.proofs.Times.{same_more, same-counts, piece-less, piece-firs
 use Rattle.encoding.specs.Cuts.{somes, repeat_in, literal_in, stretch_in, PresentIn, CutOf, Other, SameRun, LoneRun}
 use Rattle.encoding.specs.Longest.{readings_in, readings_of}
 use Rattle.runs.specs.Pieces.{held_in, rest_of, list_of, Going}
-use Rattle.runs.specs.declared.walk.Held.TheVariants as held
 use Rattle.runs.specs.declared.walk.Piece.{Piece}
 use Rattle.encoding.proofs.Cutting.{alike-eq, other-off, cut-absent, cut-repeat, cut-literal, Unlike, unlike-start, unlike-counts, unlike-more}
 use Rattle.encoding.proofs.Cut.{cut-whole}
@@ -131,7 +131,7 @@ module _ {A : Type 0} (E : Element A) (L : ElementLaws E) where
       unfolding stretches
       lone-over l = lone-stop (subst (λ (m : List (Option A)). Closed (stretches E.same m)) (sym (t.going.ended (omega arith))) tt)
 
-      pub lone-absent : 0 < w.times → w.held ≡ held.Absent → LoneRun E (list_of E s w₀) c (list_of E s w)
+      pub lone-absent : 0 < w.times → w.held ≡ None → LoneRun E (list_of E s w₀) c (list_of E s w)
       unfolding stretches
       lone-absent l e =
           lone-stop
@@ -139,7 +139,7 @@ module _ {A : Type 0} (E : Element A) (L : ElementLaws E) where
           (sym (begins w l ∙ ap (λ (y : Option A). y ∷ drop 1 (list_of E s w)) (held_none E L s w.held e)))
           (closed_none E.same (stretches E.same (drop 1 (list_of E s w)))))
 
-      module _ (n : ℕ) (r : Piece) (g : Going E s r) (f : w.held ≡ held.Absent → ⊥)
+      module _ (n : ℕ) (r : Piece) (g : Going E s r) (f : w.held ≡ None → ⊥)
           (h : SameRun E (held_in E s w.held) (list_of E s w) n (list_of E s r)) where
         -- it stands there more than once
         pub lone-twice : (n ≡ 1 → ⊥) → LoneRun E (list_of E s w₀) c (list_of E s w)
@@ -181,7 +181,7 @@ module _ {A : Type 0} (E : Element A) (L : ElementLaws E) where
     -- ---- the stretch at a piece
 
     module _ (w : Piece) (g : Going E s w) (ys : List (Option A)) (c : ℕ) (t : SameRun E (held_in E s w.held) (list_of E s w) c ys) where
-      pub found-absent : w.held ≡ held.Absent → Found E (list_of E s w) (stretch.Absent c)
+      pub found-absent : w.held ≡ None → Found E (list_of E s w) (stretch.Absent c)
       found-absent e =
           found-by E L (list_of E s w) (stretch.Absent c) ys
           (cut-absent E L (list_of E s w) ys c (subst (λ (x : Option A). SameRun E x (list_of E s w) c ys) (held_none E L s w.held e) t))
@@ -189,12 +189,12 @@ module _ {A : Type 0} (E : Element A) (L : ElementLaws E) where
       named : (a : A) → held_in E s w.held ≡ some a → SameRun E (some a) (list_of E s w) c ys
       named a e = subst (λ (x : Option A). SameRun E x (list_of E s w) c ys) e t
 
-      pub found-repeat : (w.held ≡ held.Absent → ⊥) → 2 ≤ c → Found E (list_of E s w) (stretch.Repeat c)
+      pub found-repeat : (w.held ≡ None → ⊥) → 2 ≤ c → Found E (list_of E s w) (stretch.Repeat c)
       found-repeat f l =
           let a = held-some E L s w.held g.within f in
           found-by E L (list_of E s w) (stretch.Repeat c) ys (cut-repeat E L (list_of E s w) ys c a.0 (named a.0 a.1) l)
 
-      pub found-literal : (k : ℕ) (zs : List (Option A)) → (w.held ≡ held.Absent → ⊥) → c < 2 → LoneRun E ys k zs
+      pub found-literal : (k : ℕ) (zs : List (Option A)) → (w.held ≡ None → ⊥) → c < 2 → LoneRun E ys k zs
           → Found E (list_of E s w) (stretch.Literal k)
       found-literal k zs f l r =
           let a = held-some E L s w.held g.within f in

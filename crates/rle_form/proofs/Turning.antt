@@ -1,6 +1,6 @@
 -- A sound column beside the stretches of the list that it reads as: laws for the start, a turn and the end; and what its ending and its values say of its form.
 -- Over any element; assumes nothing.
-use Prim.Native.Nat.{ℕ, ◌+◌, ◌-◌, ◌^◌, ◌≤◌, ◌<◌}
+use Prim.Native.Nat.{ℕ, ◌+◌, ◌^◌, ◌≤◌, ◌<◌}
 use mathlib.Core.Path.{◌≡◌, refl, sym, ◌∙◌, ap, subst}
 use mathlib.Core.List.{List, [], ◌∷◌, ◌++◌, map}
 use mathlib.Core.Option.{Option, none, some}
@@ -13,6 +13,11 @@ use lib.Signed.{mag}
 use mir.Syntax.{w64}
 use mir.Val.{to_z, of_z}
 use mir.ValLaws.{to_z-of_z}
+use Rattle.std.specs.Prelude.{Some, None, Result, Ok, Err}
+use Rattle.std.specs.Prelude as code
+use Rattle.std.specs.Option.{ok_or, option_flatten}
+use Rattle.std.specs.Result.{result_ok}
+use Rattle.refusal.specs.declared.Refusal.{Refusal}
 use Rattle.leb128.specs.Write.{i64_bytes}
 use Rattle.encoding.specs.Column.{Reading, value, Spot, spot, run_at, trace_from, trace}
 use Rattle.encoding.specs.Element.{Element}
@@ -20,7 +25,7 @@ use Rattle.encoding.specs.Flags.{minus}
 use Rattle.encoding.specs.Limit.{limit}
 use Rattle.encoding.specs.Longest.{readings_in}
 use Rattle.encoding.specs.Stretches.{Stretch, stretches}
-use Rattle.encoding.specs.Walk.{Ending, sound, fault, Next, over, on, off, Trace, after}
+use Rattle.encoding.specs.Walk.{Ending, sound, fault, Next, on, Trace, after}
 use Rattle.encoding.specs.Writer.{stretch_bytes, stretches_bytes, any_present, column_bytes}
 use Rattle.encoding.specs.declared.StretchEnd.{StretchEnd}
 use Rattle.encoding.proofs.Columns.{columns, trace-on}
@@ -28,6 +33,7 @@ use Rattle.encoding.proofs.Elements.{ElementLaws, stands-within}
 use Rattle.encoding.proofs.Limits.{rest-limit, run-limit}
 use Rattle.encoding.proofs.Times.{piece-first, any-behind, any-first, any-over}
 use Rattle.encoding.proofs.Walking.{rest}
+use Rattle.count_place.specs.declared.Differs.{Differs}
 use Rattle.count_place.specs.Place.{Place, behind, differs, standing}
 use Rattle.count_place.proofs.Placing.{standing_on, standing-off, off-place}
 use Rattle.own_form.specs.Difference.{differ_at}
@@ -36,10 +42,9 @@ use Rattle.own_form.specs.Heads.{head_bytes}
 use Rattle.own_form.proofs.Deciding.{count-differs, count-agrees}
 use Rattle.own_form.proofs.Following.{Follows}
 use Rattle.rle_form.specs.Ahead.{sort_of, Found}
+use Rattle.runs.specs.Cases.{next_of}
 use Rattle.runs.specs.Pieces.{held_in, list_from, rest_of, list_of, Going}
 use Rattle.rle_form.specs.Turns.{count_in, count_bytes, Sound, stretched_from, Turned}
-use Rattle.rle_form.specs.declared.Turn.TheVariants as turn
-use Rattle.runs.specs.declared.walk.Held.TheVariants as held
 use Rattle.runs.specs.declared.walk.Piece.{Piece}
 use Rattle.runs.proofs.Held.{held_none, held-some}
 use Rattle.runs.proofs.Walked.{list-end}
@@ -100,12 +105,12 @@ module _ {A : Type 0} (E : Element A) (L : ElementLaws E) (s : List ℕ) where
   -- ---- is any reading present
 
   module _ (p : Piece) (g : Going E s p) where
-    pub any_held : 0 < p.times → (p.held ≡ held.Absent → ⊥) → true ≡ any_present (list_of E s p)
+    pub any_held : 0 < p.times → (p.held ≡ None → ⊥) → true ≡ any_present (list_of E s p)
     any_held l f =
         let v = held-some E L s p.held g.within f in
         any-first (piece-first p.times (some v.0) (held_in E s p.held) (rest_of E s p) l v.1)
 
-    pub any-passed : p.held ≡ held.Absent → any_present (list_of E s p) ≡ any_present (rest_of E s p)
+    pub any-passed : p.held ≡ None → any_present (list_of E s p) ≡ any_present (rest_of E s p)
     any-passed e =
         ap (λ (x : Option A). any_present (replicate p.times x ++ rest_of E s p)) (held_none E L s p.held e)
         ∙ any-behind p.times (rest_of E s p)
@@ -134,7 +139,7 @@ module _ {A : Type 0} (E : Element A) (L : ElementLaws E) (s : List ℕ) where
 
   -- the list is over, and the column is not
   pub turn-none : (at had : ℕ) (p : Piece) → at < length s → Going E s p → list_of E s p ≡ list_from E s at had → p.times ≡ 0
-      → Turned E s at had (turn.Differs at)
+      → differ_at at (drop at s) (stretched_from E s at had) ≡ some at
   unfolding stretches stretches_bytes
   turn-none at had p l g e z =
       ap (λ (xs : List (Option A)). differ_at at (drop at s) (stretches_bytes E (stretches E.same xs))) (sym e ∙ g.ended z)
@@ -158,7 +163,7 @@ module _ {A : Type 0} (E : Element A) (L : ElementLaws E) (s : List ℕ) where
       pub turn-count : count_in r ≤ limit
       turn-count = omega (arith, ap count_in f.sort, count-readings f.stretch, total, turn-few)
 
-      pub turn-off : (place : ℕ) → standing at (drop at s) (count_bytes r) ≡ differs place → Turned E s at had (turn.Differs place)
+      pub turn-off : (place : ℕ) → standing at (drop at s) (count_bytes r) ≡ differs place → differ_at at (drop at s) (stretched_from E s at had) ≡ some place
       turn-off place k =
           let o = off-place at place (drop at s) (head_bytes f.stretch) (sym (ap (standing at (drop at s)) heads) ∙ k) in
           ap (differ_at at (drop at s)) written
@@ -178,14 +183,8 @@ module _ {A : Type 0} (E : Element A) (L : ElementLaws E) (s : List ℕ) where
         goes_on : (run_at E s (spot at had)).next ≡ on (spot (at + length (stretch_bytes E f.stretch)) (had + length (readings_in f.stretch)))
         goes_on = agrees.0.next
 
-        pub turn-sound : (number place : ℕ) → off number place ≡ (run_at E s (spot at had)).next → ⊥
-        turn-sound number place q = let z = q ∙ goes_on in let y : ◌≡◌ {A = ℕ} 0 1 = cc in omega arith
-
-        pub turn-there : over ≡ (run_at E s (spot at had)).next → ⊥
-        turn-there q = let z = q ∙ goes_on in let y : ◌≡◌ {A = ℕ} 0 1 = cc in omega arith
-
-        pub turn_on : (next n : ℕ) → on (spot next n) ≡ (run_at E s (spot at had)).next → Turned E s at had (turn.On next n)
-        turn_on next n q =
+        on-is : (next n : ℕ) → on (spot next n) ≡ (run_at E s (spot at had)).next → Turned E s at had (Ok (next, n))
+        on-is next n q =
             let y = agrees.0 in
             let w : ℕ = at + length (stretch_bytes E f.stretch) in
             let m : ℕ = had + length (readings_in f.stretch) in
@@ -203,6 +202,12 @@ module _ {A : Type 0} (E : Element A) (L : ElementLaws E) (s : List ℕ) where
               (columns E L s).falls (spot at had) (spot next n) (sym q),
               d ∙ ap (λ (j : ℕ). differ_at j (drop j s) (stretched_from E s j m)) a ∙ ap (λ (j : ℕ). differ_at next (drop next s) (stretched_from E s next j)) b,
             )
+
+        pub turn_on : (d : Differs) (r : Result (code.Option (ℕ × ℕ)) Refusal) → next_of r ≡ (run_at E s (spot at had)).next
+            → Turned E s at had (ok_or (option_flatten (result_ok r)) d)
+        turn_on d (Ok None) q = let z = q ∙ goes_on in let y : ◌≡◌ {A = ℕ} 0 1 = cc in absurd (omega arith)
+        turn_on d (Ok (Some (next, n))) q = on-is next n q
+        turn_on d (Err e) q = let z = q ∙ goes_on in let y : ◌≡◌ {A = ℕ} 0 1 = cc in absurd (omega arith)
 
   -- ---- what is written
 

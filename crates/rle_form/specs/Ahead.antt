@@ -1,6 +1,6 @@
 -- Looking ahead over the list that is walked for the writer's next stretch: what the private functions promise one another. No public promise cites it.
 use Rattle.std.specs.Prelude.{suc, ◌<◌, ◌≡◌, List, ◌∷◌, ◌++◌, length}
-use Rattle.std.proofs.Math.Option.{Option, some}
+use Rattle.std.proofs.Math.Option.{Option}
 use Rattle.encoding.specs.Element.{Element}
 use Rattle.encoding.specs.Longest.{readings_in}
 use Rattle.encoding.specs.Stretches.{Stretch, stretches}

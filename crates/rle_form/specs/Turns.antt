@@ -1,6 +1,8 @@
 -- A sound column beside the stretches of the list that it reads as, run by run: what the private functions promise one another. No public promise cites it.
-use Rattle.std.specs.Prelude.{ℕ, ◌-◌, ◌≤◌, ◌<◌, ◌≡◌, List, ◌++◌, pos, length, drop}
+use Rattle.std.specs.Prelude.{ℕ, ◌-◌, ◌≤◌, ◌<◌, ◌≡◌, List, ◌++◌, pos, length, drop, Result, Ok, Err}
 use Rattle.std.proofs.Math.Option.{some}
+use Rattle.refusal.specs.Number.{number_of}
+use Rattle.refusal.specs.declared.Refusal.{Refusal}
 use Rattle.leb128.specs.Write.{u64_bytes, i64_bytes}
 use Rattle.encoding.specs.Column.{spot, trace_from}
 use Rattle.encoding.specs.Element.{Element}
@@ -13,15 +15,12 @@ use Rattle.encoding.specs.declared.StretchEnd.TheVariants as stretch
 use Rattle.encoding.specs.Flags.{minus}
 use Rattle.own_form.specs.Difference.{differ_at}
 use Rattle.runs.specs.Pieces.{list_from}
-use Rattle.rle_form.specs.declared.Ended.{Ended}
-use Rattle.rle_form.specs.declared.Ended.TheVariants as ended
-use Rattle.rle_form.specs.declared.Turn.{Turn}
-use Rattle.rle_form.specs.declared.Turn.TheVariants as turn
+use Rattle.count_place.specs.declared.Differs.{Differs}
 
 -- how a column ends
-abbrev pub ending_of : Ended → Ending
-ending_of ended.Soundly = sound
-ending_of (ended.Faulty number place) = fault number place
+abbrev pub ending_of : Result (Unit {0}) Refusal → Ending
+ending_of (Ok done) = sound
+ending_of (Err e) = fault (number_of e.0) e.1
 
 -- how many readings a stretch has, and the numbers that it begins with
 abbrev pub count_in : StretchEnd → ℕ
@@ -45,8 +44,8 @@ abbrev pub stretched_from : {A : Type 0} → Element A → List ℕ → ℕ → 
 stretched_from E s at had = stretches_bytes E (stretches E.same (list_from E s at had))
 
 -- the run is the writer's next stretch, and what is left is compared behind it; or they differ at a place
-abbrev pub Turned : {A : Type 0} → Element A → List ℕ → ℕ → ℕ → Turn → Type 0
-Turned E s at had (turn.On next n) =
+abbrev pub Turned : {A : Type 0} → Element A → List ℕ → ℕ → ℕ → Result (ℕ × ℕ) Differs → Type 0
+Turned E s at had (Ok (next, n)) =
     Sound E s next n × (length s - next < length s - at)
     × (differ_at at (drop at s) (stretched_from E s at had) ≡ differ_at next (drop next s) (stretched_from E s next n))
-Turned E s at had (turn.Differs place) = differ_at at (drop at s) (stretched_from E s at had) ≡ some place
+Turned E s at had (Err e) = differ_at at (drop at s) (stretched_from E s at had) ≡ some e.0

@@ -1,5 +1,5 @@
 // The writer's next stretch of the list that is walked, found by looking ahead with copies of the walk.
-ghost use Rattle.std.specs.Prelude.{◌≡◌, suc, ◌-◌, ◌≤◌, ◌<◌, length};
+ghost use Rattle.std.specs.Prelude.{◌≡◌, Some, suc, ◌-◌, ◌≤◌, ◌<◌, length};
 ghost use Rattle.encoding.specs.Limit.{limit};
 ghost use Rattle.text.specs.Text.{bytes_at, same_bytes};
 ghost use Rattle.runs.specs.Values.{element_of};
@@ -13,7 +13,7 @@ use runs::Values;
 use runs::walk::{Held, Piece, advanced, is_absent};
 
 // So many readings, and the piece behind them.
-#[derive(Clone, Copy)]
+#[derive(Clone, Copy, Debug, PartialEq, Eq)]
 struct Passed {
     count: u64,
     piece: Piece,
@@ -29,13 +29,13 @@ fn same_parts(s: &[u8], a: usize, b: usize, c: usize, d: usize) -> bool
 
 // Is the reading that is held the value from `from` up to `till`? Our encoding is the only one that is read, so values are equal where their bytes are.
 fn holds_value(s: &[u8], values: Values, held: Held, from: usize, till: usize) -> bool
-    requires { Within (element_of values).E s.now held × Within (element_of values).E s.now (Held.Value from till) }
+    requires { Within (element_of values).E s.now held × Within (element_of values).E s.now (Some (from, till)) }
     ensures { result ≡ alike (element_of values).E (held_in (element_of values).E s.now held)
-        (held_in (element_of values).E s.now (Held.Value from till)) }
+        (held_in (element_of values).E s.now (Some (from, till))) }
 {
     match held {
-        Held::Absent => false,
-        Held::Value(a, b) => same_parts(s, a, b, from, till),
+        None => false,
+        Some((a, b)) => same_parts(s, a, b, from, till),
     }
 }
 
@@ -46,8 +46,8 @@ fn same_held(s: &[u8], values: Values, a: Held, b: Held) -> bool
         (held_in (element_of values).E s.now b) }
 {
     match b {
-        Held::Absent => is_absent(a),
-        Held::Value(from, till) => holds_value(s, values, a, from, till),
+        None => is_absent(a),
+        Some((from, till)) => holds_value(s, values, a, from, till),
     }
 }
 
@@ -64,18 +64,12 @@ fn same_run(s: &[u8], values: Values, p: Piece) -> Passed
     while 0 < here.times {
         let next = here.held;
         if !same_held(s, values, held, next) {
-            return Passed {
-                count: count,
-                piece: here,
-            };
+            return Passed { count, piece: here };
         }
         count += here.times;
         here = advanced(s, values, here);
     }
-    Passed {
-        count: count,
-        piece: here,
-    }
+    Passed { count, piece: here }
 }
 
 // The values from here on that equal no neighbour, behind one that is not like the one here; that one is counted too.
@@ -90,25 +84,16 @@ fn literal_run(s: &[u8], values: Values, p: Piece) -> Passed
     while 0 < here.times {
         let held = here.held;
         if is_absent(held) {
-            return Passed {
-                count: count,
-                piece: here,
-            };
+            return Passed { count, piece: here };
         }
         let run = same_run(s, values, here);
         if run.count != 1 {
-            return Passed {
-                count: count,
-                piece: here,
-            };
+            return Passed { count, piece: here };
         }
         count += 1;
         here = run.piece;
     }
-    Passed {
-        count: count,
-        piece: here,
-    }
+    Passed { count, piece: here }
 }
 
 // The stretch here.

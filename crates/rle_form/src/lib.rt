@@ -18,47 +18,27 @@ ghost use Rattle.rle_form.specs.Turns.{ending_of, count_in, count_bytes, Sound, 
 pub mod ahead;
 
 use crate::ahead::stretch_at;
-use count_place::Place;
+use count_place::{Differs, Place};
 use encoding::StretchEnd;
 use own_form::Form;
+use refusal::Refusal;
+use runs::Values;
 use runs::walk::{advanced, first, is_absent};
-use runs::{RunEnd, Values};
-
-// Soundly, or with a fault's number and place.
-#[derive(Clone, Copy)]
-enum Ended {
-    Soundly,
-    Faulty(u8, usize),
-}
 
 // Behind a run that is the writer's next stretch: the next position and how many readings came so far; or the place at which the two differ.
-#[derive(Clone, Copy)]
-enum Turn {
-    On(usize, u64),
-    Differs(usize),
-}
+type Turn = Result<(usize, u64), Differs>;
 
-// How a column ends.
-fn column_end(s: &[u8], values: Values) -> Ended
+// How a column ends: soundly, or with its fault.
+fn column_end(s: &[u8], values: Values) -> Result<(), Refusal>
     ensures { ending_of result ≡ (trace (element_of values).E s.now).ending }
 {
     let mut at: usize = 0;
     let mut had: u64 = 0;
-    while at < s.len() {
-        match runs::run_end(s, values, at, had) {
-            RunEnd::On(next, n) => {
-                at = next;
-                had = n;
-            }
-            RunEnd::Off(number, place) => {
-                return Ended::Faulty(number, place);
-            }
-            RunEnd::Over => {
-                return Ended::Soundly;
-            }
-        }
+    while let Some((next, n)) = runs::run_end(s, values, at, had)? {
+        at = next;
+        had = n;
     }
-    Ended::Soundly
+    Ok(())
 }
 
 // Is any reading present?
@@ -80,10 +60,8 @@ fn any_value(s: &[u8], values: Values) -> bool
 fn compare_absent(s: &[u8], at: usize, n: u64) -> Place
     ensures { place_of result ≡ standing at (drop at s.now) (count_bytes (StretchEnd.Absent n)) }
 {
-    match count_place::compare_i64(s, at, 0) {
-        Place::Behind(next) => count_place::compare_u64(s, next, n),
-        Place::Differs(place) => Place::Differs(place),
-    }
+    let next = count_place::compare_i64(s, at, 0)?;
+    count_place::compare_u64(s, next, n)
 }
 
 // The same of a stretch of any sort.
@@ -114,16 +92,13 @@ fn turned(s: &[u8], values: Values, at: usize, had: u64) -> Turn
 {
     let p = first(s, values, at, had);
     if p.times == 0 {
-        return Turn::Differs(at);
+        return Err(Differs(at));
     }
-    match compare_count(s, at, stretch_at(s, values, p)) {
-        Place::Differs(place) => Turn::Differs(place),
-        Place::Behind(_) => match runs::run_end(s, values, at, had) {
-            RunEnd::On(next, n) => Turn::On(next, n),
-            RunEnd::Off(_, _) => Turn::Differs(at),
-            RunEnd::Over => Turn::Differs(at),
-        },
-    }
+    compare_count(s, at, stretch_at(s, values, p))?;
+    runs::run_end(s, values, at, had)
+        .ok()
+        .flatten()
+        .ok_or(Differs(at))
 }
 
 // A sound column beside the stretches of its list.
@@ -135,16 +110,16 @@ fn compare_stretches(s: &[u8], values: Values) -> Form
     let mut had: u64 = 0;
     while at < s.len() {
         match turned(s, values, at, had) {
-            Turn::On(next, n) => {
+            Ok((next, n)) => {
                 at = next;
                 had = n;
             }
-            Turn::Differs(place) => {
-                return Form::Other(place);
+            Err(Differs(place)) => {
+                return Ok(Some(place));
             }
         }
     }
-    Form::Ours
+    Ok(None)
 }
 
 // A sound column beside what is written for its list: nothing where no value is present.
@@ -157,9 +132,9 @@ fn compare_column(s: &[u8], values: Values) -> Form
         return compare_stretches(s, values);
     }
     if 0 < s.len() {
-        return Form::Other(0);
+        return Ok(Some(0));
     }
-    Form::Ours
+    Ok(None)
 }
 
 // A column's form: its own fault, or whether its bytes are what our writer gives for the list they read as, and if not, where they first differ.
@@ -167,8 +142,6 @@ pub fn runs_form(s: &[u8], values: Values) -> Form
     ensures { form_as result ≡ form_in (trace (element_of values).E)
         (λ rs. column_bytes (element_of values).E (map value rs)) s.now }
 {
-    match column_end(s, values) {
-        Ended::Faulty(number, place) => Form::Refused(number, place),
-        Ended::Soundly => compare_column(s, values),
-    }
+    column_end(s, values)?;
+    compare_column(s, values)
 }

@@ -1,30 +1,21 @@
 // Salvage of an Actor or Integer column: what survives of it, kept in lent slots and written as a fresh column.
 #![tactic(auto)]
 
-ghost use Rattle.std.specs.Prelude.{◌≡◌, true, map, ◌≤◌, length, take};
-ghost use Rattle.encoding.specs.Cases.{answer_of};
+ghost use Rattle.std.specs.Prelude.{◌≡◌, true, map, ◌≤◌, length, Ok};
 ghost use Rattle.encoding.specs.Column.{value, trace};
-ghost use Rattle.encoding.specs.Given.{slot_list, list_judged, Encoded};
-ghost use Rattle.encoding.specs.Survivors.{survey_of};
+ghost use Rattle.encoding.specs.Survivors.{seen, survey_of};
 ghost use Rattle.encoding.specs.Writer.{column_bytes};
 ghost use Rattle.rle_decoder.specs.Word.{u64_e};
 ghost use Rattle.column_specification.specs.Served.{integer_type};
 ghost use Rattle.salvage.specs.Salvage.{outcome_of, SavedOptional};
 
-use encoding::{Answer, Survey};
+use encoding::Survey;
+use refusal::{Refusal, Why};
 use runs::Values;
-use salvage::Salvaged;
+use salvage::{Salvaged, Saved};
 
-// The readings in the first n slots as a column, at the front of the output.
-fn put_kept(values: &[u64], present: &[u8], n: usize, out: &mut [u8]) -> Answer
-    requires { (n ≤ length values.now) × (n ≤ length present.now) }
-    ensures { Encoded (column_bytes u64_e (slot_list (take n values.now) (take n present.now)))
-        (list_judged (length (take n values.now)) (take n present.now)) out.old out.new (answer_of result) }
-{
-    rle_encoder::encode(&values[..n], &present[..n], out)
-}
-
-// What survives, where slots and output take it.
+// What survives, where slots and output take it: no refusal is left to the reader or the writer. The other salvage of optional readings
+// has the same with its own reader and writer; a trait for both would hold these, what they promise and its laws, for two calls: no plainer.
 fn save(
     s: &[u8],
     found: Survey,
@@ -32,17 +23,22 @@ fn save(
     values: &mut [u64],
     present: &mut [u8],
     out: &mut [u8],
-) -> Salvaged
-    requires found_value { (found ≡ survey_of (trace u64_e s.now)) × (found.readings ≤ length values.old) × (length present.old ≡ length values.old) }
+) -> Saved
+    requires found_value { (seen found ≡ survey_of (trace u64_e s.now)) × (found.readings ≤ length values.old) × (length present.old ≡ length values.old) }
     requires size_value { (size ≡ length (column_bytes u64_e (map value (trace u64_e s.now).readings))) × (size ≤ length out.old) }
     ensures { SavedOptional true (trace u64_e s.now) 0
         (column_bytes u64_e (map value (trace u64_e s.now).readings))
         values.old values.new present.old present.new
-        out.old out.new (outcome_of result) }
+        out.old out.new (outcome_of (Ok result)) }
 {
-    rle_decoder::keep(s, values, present);
-    put_kept(values, present, found.readings as usize, out);
-    Salvaged::Saved(found.readings, size, found.number, found.place)
+    let n = found.readings as usize;
+    let _ = rle_decoder::keep(s, values, present);
+    let _ = rle_encoder::encode(&values[..n], &present[..n], out);
+    Saved {
+        kept: found.readings,
+        written: size,
+        fault: found.fault,
+    }
 }
 
 // Keeps the readings before a column's first fault, and writes them as a fresh column. Its own refusals: 17, 8, 9, 10.
@@ -58,20 +54,16 @@ pub fn salvage(
         values.old values.new present.old present.new
         out.old out.new (outcome_of result) }
 {
-    if typ != 1 {
-        if typ != 2 {
-            return Salvaged::Refused(17, 0);
-        }
+    if typ != 1 && typ != 2 {
+        return Err(Refusal(Why::NotServed, 0));
     }
     if values.len() != present.len() {
-        return Salvaged::Refused(8, 0);
+        return Err(Refusal(Why::BadList, 0));
     }
     let found = rle_decoder::survey(s);
     if (values.len() as u64) < found.readings {
-        return Salvaged::Refused(9, 0);
+        return Err(Refusal(Why::TooFewSlots, 0));
     }
-    match rewriting::rewritten_len(s, Values::Words, found.readings, out.len() as u64) {
-        Answer::Done(size) => save(s, found, size as usize, values, present, out),
-        Answer::Refused(number, place) => Salvaged::Refused(number, place),
-    }
+    let size = rewriting::rewritten_len(s, Values::Words, found.readings, out.len() as u64)?;
+    Ok(save(s, found, size as usize, values, present, out))
 }

@@ -9,7 +9,7 @@ ghost use Rattle.encoding.specs.Head.{repeat, literal, judged, absent_head, begu
 ghost use Rattle.encoding.specs.Cases.{head_of};
 
 use encoding::{Head, LIMIT};
-use leb128::{ParsedI64, ParsedU64};
+use refusal::{Refusal, Why};
 
 // May c readings follow `had` others?
 fn may_follow(had: u64, c: u64) -> bool
@@ -22,39 +22,34 @@ fn may_follow(had: u64, c: u64) -> bool
 }
 
 // The second number of an absent run, at q.
-fn absent_at(s: &[u8], q: usize, had: u64) -> Head
+fn absent_at(s: &[u8], q: usize, had: u64) -> Result<Head, Refusal>
     ensures { head_of result ≡ absent_head had q (u64_at s.now q) }
 {
-    match leb128::leb128_u64(s, q) {
-        ParsedU64::Number(c, next) => {
-            if may_follow(had, c) {
-                Head::Absent(c, next)
-            } else {
-                Head::Refused(5, q)
-            }
-        }
-        ParsedU64::Refused(n, place) => Head::Refused(n, place),
+    let (c, next) = leb128::leb128_u64(s, q)?;
+    if may_follow(had, c) {
+        return Ok(Head::Absent(c, next));
     }
+    Err(Refusal(Why::TooMany, q))
 }
 
 // A run of c readings whose count stands at `at`, before q.
-fn repeat_at(at: usize, had: u64, c: u64, q: usize) -> Head
+fn repeat_at(at: usize, had: u64, c: u64, q: usize) -> Result<Head, Refusal>
     ensures { head_of result ≡ judged had c at (repeat c q) }
 {
     if may_follow(had, c) {
-        Head::Repeat(c, q)
+        Ok(Head::Repeat(c, q))
     } else {
-        Head::Refused(5, at)
+        Err(Refusal(Why::TooMany, at))
     }
 }
 
-fn literal_at(at: usize, had: u64, c: u64, q: usize) -> Head
+fn literal_at(at: usize, had: u64, c: u64, q: usize) -> Result<Head, Refusal>
     ensures { head_of result ≡ judged had c at (literal c q) }
 {
     if may_follow(had, c) {
-        Head::Literal(c, q)
+        Ok(Head::Literal(c, q))
     } else {
-        Head::Refused(5, at)
+        Err(Refusal(Why::TooMany, at))
     }
 }
 
@@ -66,7 +61,7 @@ fn count_of(c: i64) -> u64
 }
 
 // The run whose signed count c stands at `at`, before q.
-fn begun_at(s: &[u8], at: usize, had: u64, c: i64, q: usize) -> Head
+fn begun_at(s: &[u8], at: usize, had: u64, c: i64, q: usize) -> Result<Head, Refusal>
     ensures { head_of result ≡ begun s.now at had (got c q) }
 {
     if c < 0 {
@@ -79,33 +74,27 @@ fn begun_at(s: &[u8], at: usize, had: u64, c: i64, q: usize) -> Head
 }
 
 // How the run at `at` begins, before which there are `had` readings.
-pub fn head_at(s: &[u8], at: usize, had: u64) -> Head
+pub fn head_at(s: &[u8], at: usize, had: u64) -> Result<Head, Refusal>
     ensures { head_of result ≡ head_at s.now at had }
 {
-    match leb128::leb128_i64(s, at) {
-        ParsedI64::Number(c, q) => begun_at(s, at, had, c, q),
-        ParsedI64::Refused(n, place) => Head::Refused(n, place),
-    }
+    let (c, q) = leb128::leb128_i64(s, at)?;
+    begun_at(s, at, had, c, q)
 }
 
 // The same by its bytes, for the cursors, which would make the table for each run.
-pub fn head_by_bytes(s: &[u8], at: usize, had: u64) -> Head
+pub fn head_by_bytes(s: &[u8], at: usize, had: u64) -> Result<Head, Refusal>
     ensures { head_of result ≡ head_at s.now at had }
 {
-    match leb128::i64_by_bytes(s, at) {
-        ParsedI64::Number(c, q) => begun_at(s, at, had, c, q),
-        ParsedI64::Refused(n, place) => Head::Refused(n, place),
-    }
+    let (c, q) = leb128::i64_by_bytes(s, at)?;
+    begun_at(s, at, had, c, q)
 }
 
 // The same by a table that is lent: a count of any length.
-fn head_far(table: &[i8; 256], s: &[u8], at: usize, had: u64) -> Head
+fn head_far(table: &[i8; 256], s: &[u8], at: usize, had: u64) -> Result<Head, Refusal>
     ensures { head_of result ≡ head_by table.now s.now at had }
 {
-    match leb128::i64_by(table, s, at) {
-        ParsedI64::Number(c, q) => begun_at(s, at, had, c, q),
-        ParsedI64::Refused(n, place) => Head::Refused(n, place),
-    }
+    let (c, q) = leb128::i64_by(table, s, at)?;
+    begun_at(s, at, had, c, q)
 }
 
 // No count of one byte passes the limit behind so many readings.
@@ -133,7 +122,7 @@ fn number_of(x: i8) -> i64
 }
 
 // For whoever reads many: counts of one byte in place.
-pub fn head_by(table: &[i8; 256], s: &[u8], at: usize, had: u64) -> Head
+pub fn head_by(table: &[i8; 256], s: &[u8], at: usize, had: u64) -> Result<Head, Refusal>
     ensures { head_of result ≡ head_by table.now s.now at had }
 {
     if NEAR < had {
@@ -145,17 +134,17 @@ pub fn head_by(table: &[i8; 256], s: &[u8], at: usize, had: u64) -> Head
         let q = at + 1;
         if x < 0 {
             if x != MORE {
-                return Head::Literal(count_of(x), q);
+                return Ok(Head::Literal(count_of(x), q));
             }
         } else if x == 0 {
             if q < s.len() {
                 let c = s[q];
                 if c < 128 {
-                    return Head::Absent(wide(c), q + 1);
+                    return Ok(Head::Absent(wide(c), q + 1));
                 }
             }
         } else {
-            return Head::Repeat(count_of(x), q);
+            return Ok(Head::Repeat(count_of(x), q));
         }
     }
     head_far(table, s, at, had)

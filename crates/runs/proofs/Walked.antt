@@ -5,6 +5,7 @@ use mathlib.Core.List.{List, [], ◌∷◌, ◌++◌, map}
 use mathlib.Core.Option.{Option}
 use native.Mathlib.Omega.{arith}
 use lib.ListN.{length, replicate}
+use Rattle.std.specs.Prelude.{Some, None}
 use Rattle.leb128.specs.Got.{Got, got, bad}
 use Rattle.encoding.specs.Column.{Reading, absent, present, value, Spot, spot, repeated, literals, run_of, run_at, trace_from}
 use Rattle.encoding.specs.Element.{Element}
@@ -13,9 +14,7 @@ use Rattle.encoding.specs.Walk.{Run, Trace, whole, cut}
 use Rattle.encoding.proofs.Columns.{trace-on, run-head, run_end, repeated-got, repeated-bad, literals-none, literals-on, literals-off}
 use Rattle.encoding.proofs.Elements.{ElementLaws}
 use Rattle.encoding.proofs.Lists.{map-append, map-replicate}
-use Rattle.runs.specs.Pieces.{read_of, held_in, before_run, values_in, list_from, rest_of, list_of, Onto, Going}
-use Rattle.runs.specs.declared.walk.Held.{Held}
-use Rattle.runs.specs.declared.walk.Held.TheVariants as held
+use Rattle.runs.specs.Pieces.{Held, read_of, held_in, before_run, values_in, list_from, rest_of, list_of, Onto, Going}
 use Rattle.runs.specs.declared.walk.Piece.{Piece}
 
 abbrev pub piece : Held → ℕ → ℕ → ℕ → ℕ → Piece
@@ -65,7 +64,7 @@ module _ {A : Type 0} (E : Element A) (L : ElementLaws E) (s : List ℕ) where
         }
 
     pub onto-literal : (next : ℕ) (a : A) → 0 < n → E.read s q ≡ got a next
-        → Onto E s (values_in E s (literals E s total n q)) (piece (held.Value q next) 1 next total (n - 1))
+        → Onto E s (values_in E s (literals E s total n q)) (piece (Some (q, next)) 1 next total (n - 1))
     unfolding value
     onto-literal next a l e =
         record {
@@ -83,12 +82,12 @@ module _ {A : Type 0} (E : Element A) (L : ElementLaws E) (s : List ℕ) where
 
   module _ (q had n : ℕ) where
     pub onto-repeat : (next : ℕ) (a : A) → E.read s q ≡ got a next
-        → Onto E s (values_in E s (repeated had n q (E.read s q))) (piece (held.Value q next) n next (had + n) 0)
+        → Onto E s (values_in E s (repeated had n q (E.read s q))) (piece (Some (q, next)) n next (had + n) 0)
     unfolding value
     onto-repeat next a e =
         record {
           within = (a, e);
-          list = sym (onto_same _ (present a q) (held.Value q next) n next (had + n) (repeated-got had n q next a (E.read s q) e) (ap read_of e));
+          list = sym (onto_same _ (present a q) (Some (q, next)) n next (had + n) (repeated-got had n q next a (E.read s q) e) (ap read_of e));
           spare = λ z. refl;
         }
 
@@ -102,11 +101,11 @@ module _ {A : Type 0} (E : Element A) (L : ElementLaws E) (s : List ℕ) where
     pub into : (h : Head) (p : Piece) → head_at s at had ≡ h → Onto E s (values_in E s (run_of E s had h)) p → Onto E s (list_from E s at had) p
     into h p e o = subst (λ (xs : List (Option A)). Onto E s xs p) (sym (list-run at had ∙ ap (values_in E s) (run-head E s at had h l e))) o
 
-    pub into-absent : (n next : ℕ) → head_at s at had ≡ Head.absent n next → Onto E s (list_from E s at had) (piece held.Absent n next (had + n) 0)
+    pub into-absent : (n next : ℕ) → head_at s at had ≡ Head.absent n next → Onto E s (list_from E s at had) (piece None n next (had + n) 0)
     unfolding run_of value
     into-absent n next e =
         into (Head.absent n next) _ e
-        (record { within = tt; list = sym (onto_same _ absent held.Absent n next (had + n) refl refl); spare = λ z. refl })
+        (record { within = tt; list = sym (onto_same _ absent None n next (had + n) refl refl); spare = λ z. refl })
 
     pub into-fault : (number place : ℕ) → head_at s at had ≡ amiss number place → Onto E s (list_from E s at had) (before_run (length s) had)
     unfolding run_of

@@ -1,17 +1,15 @@
 -- What each answer of the code stands for.
-use Rattle.std.specs.Prelude.{ℕ}
+use Rattle.std.specs.Prelude.{ℕ, Option, Some, None, Result, Ok, Err}
+use Rattle.refusal.specs.Number.{number_of}
+use Rattle.refusal.specs.declared.Refusal.{Refusal}
 use Rattle.encoding.specs.Walk.{Next, over, on, off}
 use Rattle.encoding.specs.Column.{Spot, spot}
-use Rattle.runs.specs.declared.ValueEnd.{ValueEnd}
-use Rattle.runs.specs.declared.ValueEnd.TheVariants as valueEnd
-use Rattle.runs.specs.declared.RunEnd.{RunEnd}
-use Rattle.runs.specs.declared.RunEnd.TheVariants as runEnd
 
-abbrev pub end_of : ValueEnd → Next ℕ
-end_of (valueEnd.At next) = on next
-end_of (valueEnd.Refused number place) = off number place
+abbrev pub end_of : Result ℕ Refusal → Next ℕ
+end_of (Ok next) = on next
+end_of (Err e) = off (number_of e.0) e.1
 
-abbrev pub next_of : RunEnd → Next Spot
-next_of runEnd.Over = over
-next_of (runEnd.On at had) = on (spot at had)
-next_of (runEnd.Off number place) = off number place
+abbrev pub next_of : Result (Option (ℕ × ℕ)) Refusal → Next Spot
+next_of (Ok None) = over
+next_of (Ok (Some (at, had))) = on (spot at had)
+next_of (Err e) = off (number_of e.0) e.1

@@ -1,14 +1,17 @@
 -- 01, "Columns", and 02, [1]: a run-length column walked a piece at a time, whatever its values are: a reading, how many times it stands there at once, and
 -- what comes behind it. At a fault the list ends, as the readings do.
-use Rattle.std.specs.Prelude.{ℕ, ◌-◌, ◌≤◌, ◌≡◌, List, [], ◌++◌, map, Bool, true, false, replicate}
+use Rattle.std.specs.Prelude.{ℕ, ◌-◌, ◌≤◌, ◌≡◌, List, [], ◌++◌, map, Bool, true, false, replicate, Some, None}
+use Rattle.std.specs.Prelude as code
 use Rattle.std.proofs.Math.Option.{Option, none, some}
 use Rattle.leb128.specs.Got.{Got, got, bad}
 use Rattle.encoding.specs.Column.{Reading, value, Spot, spot, literals, trace_from}
 use Rattle.encoding.specs.Element.{Element}
 use Rattle.encoding.specs.Walk.{Run, onward}
-use Rattle.runs.specs.declared.walk.Held.{Held}
-use Rattle.runs.specs.declared.walk.Held.TheVariants as held
 use Rattle.runs.specs.declared.walk.Piece.{Piece}
+
+-- a reading that is held, by the place of its value's bytes
+abbrev pub Held : Type 0
+Held = code.Option (ℕ × ℕ)
 
 -- the reading that is held: a value is what is read where its bytes begin
 abbrev pub read_of : {A : Type 0} → Got A → Option A
@@ -16,17 +19,17 @@ read_of (got a next) = some a
 read_of (bad number place) = none
 
 abbrev pub held_in : {A : Type 0} → Element A → List ℕ → Held → Option A
-held_in E s held.Absent = none
-held_in E s (held.Value from till) = read_of (E.read s from)
+held_in E s None = none
+held_in E s (Some (from, till)) = read_of (E.read s from)
 
 -- a value was read there, and ends where it is said to
 abbrev pub Within : {A : Type 0} → Element A → List ℕ → Held → Type 0
-Within E s held.Absent = Unit {0}
-Within {A} E s (held.Value from till) = (a : A) × (E.read s from ≡ got a till)
+Within E s None = Unit {0}
+Within {A} E s (Some (from, till)) = (a : A) × (E.read s from ≡ got a till)
 
 -- no reading is held, and the run at a position comes next
 abbrev pub before_run : ℕ → ℕ → Piece
-before_run at had = record { held = held.Absent; times = 0; at = at; had = had; left = 0 }
+before_run at had = record { held = None; times = 0; at = at; had = had; left = 0 }
 
 -- the list from a run on, where the run is known; and from the run at a position on, before which there are `had` readings
 abbrev pub values_in : {A : Type 0} → Element A → List ℕ → Run (Reading A) Spot → List (Option A)
@@ -55,14 +58,14 @@ pub record Going {A : Type 0} (E : Element A) (s : List ℕ) (p : Piece) : Type 
 
 -- is it absent
 abbrev pub AbsentIf : Held → Bool → Type 0
-AbsentIf h true = h ≡ held.Absent
-AbsentIf h false = h ≡ held.Absent → ⊥
+AbsentIf h true = h ≡ None
+AbsentIf h false = h ≡ None → ⊥
 
 -- how many bytes it has, which stand in order
 abbrev pub size_in : Held → ℕ
-size_in held.Absent = 0
-size_in (held.Value from till) = till - from
+size_in None = 0
+size_in (Some (from, till)) = till - from
 
 abbrev pub Ordered : Held → Type 0
-Ordered held.Absent = Unit {0}
-Ordered (held.Value from till) = from ≤ till
+Ordered None = Unit {0}
+Ordered (Some (from, till)) = from ≤ till

@@ -6,19 +6,15 @@ ghost use Rattle.encoding.specs.Limit.{limit};
 ghost use Rattle.runs.specs.Values.{element_of};
 ghost use Rattle.runs.specs.Pieces.{AbsentIf, before_run, values_in, list_from, rest_of, list_of, Onto, Going};
 
-use crate::{ValueEnd, Values, value_end};
+use crate::{Values, value_end};
 use encoding::Head;
 
-// A reading: absent, or a value whose bytes stand in the column from one position up to another.
-#[derive(Clone, Copy)]
-pub enum Held {
-    Absent,
-    Value(usize, usize),
-}
+// A reading: a value by the position where its bytes begin in the column and the one up to which they stand; none where it is absent.
+pub type Held = Option<(usize, usize)>;
 
 // Where one stands: a reading that is held and how many times it stands here, 0 at the end. Behind it come so many literal values (`left`) from `at` on,
 // and then the run before which there are `had` readings.
-#[derive(Clone, Copy)]
+#[derive(Clone, Copy, Debug, PartialEq, Eq)]
 pub struct Piece {
     pub held: Held,
     pub times: u64,
@@ -31,10 +27,7 @@ pub struct Piece {
 pub fn is_absent(held: Held) -> bool
     ensures { AbsentIf held result }
 {
-    match held {
-        Held::Absent => true,
-        Held::Value(_, _) => false,
-    }
+    held.is_none()
 }
 
 // No reading is held: what comes is the run at a position.
@@ -42,10 +35,10 @@ fn before_run(at: usize, had: u64) -> Piece
     ensures { result ≡ before_run at had }
 {
     Piece {
-        held: Held::Absent,
+        held: None,
         times: 0,
-        at: at,
-        had: had,
+        at,
+        had,
         left: 0,
     }
 }
@@ -60,14 +53,14 @@ fn literal_at(s: &[u8], values: Values, q: usize, total: u64, n: u64) -> Piece
         return before_run(q, total);
     }
     match value_end(s, values, q) {
-        ValueEnd::At(next) => Piece {
-            held: Held::Value(q, next),
+        Ok(next) => Piece {
+            held: Some((q, next)),
             times: 1,
             at: next,
             had: total,
             left: n - 1,
         },
-        ValueEnd::Refused(_, _) => before_run(s.len(), total),
+        Err(_) => before_run(s.len(), total),
     }
 }
 
@@ -79,14 +72,14 @@ fn repeat_at(s: &[u8], values: Values, q: usize, had: u64, n: u64) -> Piece
     ensures at_in_bounds { length s.now - result.at ≤ length s.now - q }
 {
     match value_end(s, values, q) {
-        ValueEnd::At(next) => Piece {
-            held: Held::Value(q, next),
+        Ok(next) => Piece {
+            held: Some((q, next)),
             times: n,
             at: next,
             had: had + n,
             left: 0,
         },
-        ValueEnd::Refused(_, _) => before_run(s.len(), had),
+        Err(_) => before_run(s.len(), had),
     }
 }
 
@@ -97,16 +90,16 @@ fn entered(s: &[u8], values: Values, at: usize, had: u64) -> Piece
     ensures at_in_bounds { length s.now - result.at < length s.now - at }
 {
     match run_head::head_at(s, at, had) {
-        Head::Repeat(n, q) => repeat_at(s, values, q, had, n),
-        Head::Literal(n, q) => literal_at(s, values, q, had + n, n),
-        Head::Absent(n, next) => Piece {
-            held: Held::Absent,
+        Ok(Head::Repeat(n, q)) => repeat_at(s, values, q, had, n),
+        Ok(Head::Literal(n, q)) => literal_at(s, values, q, had + n, n),
+        Ok(Head::Absent(n, next)) => Piece {
+            held: None,
             times: n,
             at: next,
             had: had + n,
             left: 0,
         },
-        Head::Refused(_, _) => before_run(s.len(), had),
+        Err(_) => before_run(s.len(), had),
     }
 }
 

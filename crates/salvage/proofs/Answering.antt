@@ -13,9 +13,8 @@ use Rattle.leb128.specs.Answer.{Answer, done, refused, within}
 use Rattle.encoding.specs.Column.{Reading, value}
 use Rattle.encoding.specs.Given.{slot_list, Encoded}
 use Rattle.encoding.specs.Slots.{slot_of, flag_of, Decoded}
-use Rattle.encoding.specs.Survivors.{survey_of, surviving}
+use Rattle.encoding.specs.Survivors.{survey_of, surviving, Surveyed}
 use Rattle.encoding.specs.Walk.{Trace}
-use Rattle.encoding.specs.declared.Survey.{Survey}
 use Rattle.encoding.proofs.Surveying.{survey-readings}
 use Rattle.column_specification.specs.Served.{integer_type}
 use Rattle.salvage.specs.Salvage.{Outcome, saved, refusal, SavedOptional}
@@ -37,14 +36,14 @@ of_others t a b = rw (ne_eqb t 1 a) (ne_eqb t 2 b)
 -- ---- optional readings
 
 -- the values of as many readings as survive are those of all that survive
-pub all-values : {B : Type 0} (t : Trace (Reading B)) (r : Survey) → r ≡ survey_of t → take r.readings (map value t.readings) ≡ map value t.readings
+pub all-values : {B : Type 0} (t : Trace (Reading B)) (r : Surveyed) → r ≡ survey_of t → take r.readings (map value t.readings) ≡ map value t.readings
 all-values t r e = take_all r.readings (map value t.readings) (omega (arith, survey-readings t r e, length-map t.readings value))
 
 pub saved-served : {B : Type 0} {served : Bool} {t : Trace (Reading B)} {z : B} {bytes : List ℕ} {v v' : List B} {p p' out out' : List ℕ} {o : Outcome}
     → served ≡ true → SavedOptional true t z bytes v v' p p' out out' o → SavedOptional served t z bytes v v' p p' out out' o
 saved-served h x = rw h x
 
-module _ {B : Type 0} (t : Trace (Reading B)) (z : B) (v : List B) (p out : List ℕ) (r : Survey) (e : r ≡ survey_of t) where
+module _ {B : Type 0} (t : Trace (Reading B)) (z : B) (v : List B) (p out : List ℕ) (r : Surveyed) (e : r ≡ survey_of t) where
   -- the size is refused
   pub saved-too-long : {served : Bool} (bytes : List ℕ) (number place : ℕ) → served ≡ true → length v ≡ length p → r.readings ≤ length v
       → within 10 (length out) (done (length bytes)) ≡ refused number place → SavedOptional served t z bytes v v p p out out (refusal number place)

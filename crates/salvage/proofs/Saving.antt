@@ -9,9 +9,8 @@ use borrow.Author.Tests.{eq-eqb, ne_eqb, le-leb, lt-leb}
 use Rattle.leb128.specs.Answer.{Answer, done, refused, within}
 use Rattle.encoding.specs.Column.{Reading}
 use Rattle.encoding.specs.Slots.{slot_of, flag_of, decoding}
-use Rattle.encoding.specs.Survivors.{survey_of, surviving}
+use Rattle.encoding.specs.Survivors.{survey_of, surviving, Surveyed}
 use Rattle.encoding.specs.Walk.{Trace, outcome, outcome_of}
-use Rattle.encoding.specs.declared.Survey.{Survey}
 use Rattle.text.specs.Name.{start_of, length_of}
 use Rattle.text_decoder.specs.Slots.{decoding_names}
 use Rattle.salvage.specs.Salvage.{saved, refusal, judged, reported, left_by, SavedOptional, SavedTurns, SavedNames}
@@ -75,14 +74,14 @@ module _ {B : Type 0} {served : Bool} (t : Trace (Reading B)) (z : B) (bytes : L
   saved-8 h u = left-as-found 8 0 (sym (own-slots t served _ _ _ 8 0 h (slots-8 t _ _ u)))
 
   module _ (h : served ≡ true) (u : length v ≡ length p) where
-    pub saved-9 : (r : Survey) → r ≡ survey_of t → length v < r.readings → SavedOptional served t z bytes v v p p out out (refusal 9 0)
+    pub saved-9 : (r : Surveyed) → r ≡ survey_of t → length v < r.readings → SavedOptional served t z bytes v v p p out out (refusal 9 0)
     saved-9 r e l =
-        let k : r.readings ≡ length t.readings = ap (λ (r : Survey). r.readings) e in
+        let k : r.readings ≡ length t.readings = ap (λ (r : Surveyed). r.readings) e in
         left-as-found 9 0 (sym (own-slots t served _ _ _ 9 0 h (slots-9 t _ _ u (omega arith))))
 
-    module _ (r : Survey) (e : r ≡ survey_of t) (l : r.readings ≤ length v) where
+    module _ (r : Surveyed) (e : r ≡ survey_of t) (l : r.readings ≤ length v) where
       enough : decoding (surviving t) (length v) (length p) ≡ done (length t.readings)
-      enough = let k : r.readings ≡ length t.readings = ap (λ (r : Survey). r.readings) e in slots-done t _ _ u (omega arith)
+      enough = let k : r.readings ≡ length t.readings = ap (λ (r : Surveyed). r.readings) e in slots-done t _ _ u (omega arith)
 
       pub saved-10 : length out < length bytes → SavedOptional served t z bytes v v p p out out (refusal 10 0)
       saved-10 k = left-as-found 10 0 (sym (own-10 t served _ _ _ _ h enough k))
@@ -95,7 +94,7 @@ module _ {B : Type 0} {served : Bool} (t : Trace (Reading B)) (z : B) (bytes : L
       unfolding left_by
       saved-done size v' p' out' s f a b c =
           record {
-            answer = ap (λ (r : Survey). saved r.readings size r.number r.place) e
+            answer = ap (λ (r : Surveyed). saved r.readings size r.number r.place) e
                 ∙ ap (λ (n : ℕ). saved (survey_of t).readings n (survey_of t).number (survey_of t).place) s
                 ∙ sym (own-done t served _ _ _ _ h enough (omega arith));
             values = a;
@@ -115,9 +114,9 @@ module _ {served : Bool} (t : Trace ℕ) (bytes v out : List ℕ) where
   pub turns-17 : served ≡ false → SavedTurns served t bytes v v out out (refusal 17 0)
   turns-17 h = turns-as-found 17 0 (sym (own-17 t served _ _ _ h))
 
-  module _ (h : served ≡ true) (r : Survey) (e : r ≡ survey_of t) where
+  module _ (h : served ≡ true) (r : Surveyed) (e : r ≡ survey_of t) where
     many : r.readings ≡ length t.readings
-    many = ap (λ (r : Survey). r.readings) e
+    many = ap (λ (r : Surveyed). r.readings) e
 
     pub turns-9 : length v < r.readings → SavedTurns served t bytes v v out out (refusal 9 0)
     unfolding within
@@ -140,7 +139,7 @@ module _ {served : Bool} (t : Trace ℕ) (bytes v out : List ℕ) where
       unfolding left_by
       turns-done size v' out' s f a c =
           record {
-            answer = ap (λ (r : Survey). saved r.readings size r.number r.place) e
+            answer = ap (λ (r : Surveyed). saved r.readings size r.number r.place) e
                 ∙ ap (λ (n : ℕ). saved (survey_of t).readings n (survey_of t).number (survey_of t).place) s
                 ∙ sym (own-done t served _ _ _ _ h turns-enough (omega arith));
             values = a;
@@ -170,9 +169,9 @@ module _ {served : Bool} (t : Trace (Reading (List ℕ))) (bytes a l p out : Lis
     pub names-8-flags : (length l ≡ length p → ⊥) → SavedNames served t bytes a a l l p p out out (refusal 8 0)
     names-8-flags u = names-as-found 8 0 (sym (own-slots t served _ _ _ 8 0 h (names-slots (slots-8 t _ _ u))))
 
-    module _ (u : length l ≡ length p) (r : Survey) (e : r ≡ survey_of t) where
+    module _ (u : length l ≡ length p) (r : Surveyed) (e : r ≡ survey_of t) where
       named : r.readings ≡ length t.readings
-      named = ap (λ (r : Survey). r.readings) e
+      named = ap (λ (r : Surveyed). r.readings) e
 
       pub names-9 : length l < r.readings → SavedNames served t bytes a a l l p p out out (refusal 9 0)
       names-9 k = let n = named in names-as-found 9 0 (sym (own-slots t served _ _ _ 9 0 h (names-slots (slots-9 t _ _ u (omega arith)))))
@@ -193,7 +192,7 @@ module _ {served : Bool} (t : Trace (Reading (List ℕ))) (bytes a l p out : Lis
         unfolding left_by
         names-done size a' l' p' out' s f x y z c =
             record {
-              answer = ap (λ (r : Survey). saved r.readings size r.number r.place) e
+              answer = ap (λ (r : Surveyed). saved r.readings size r.number r.place) e
                   ∙ ap (λ (n : ℕ). saved (survey_of t).readings n (survey_of t).number (survey_of t).place) s
                   ∙ sym (own-done t served _ _ _ _ h names-enough (omega arith));
               starts = x;

@@ -1,25 +1,26 @@
 -- 02, [7]: the salvage "takes a column's bytes and its type, any served one, keeps the readings before the first faulty one, .. writes them as a fresh
 -- column, and reports how many it kept, the refusal, and its place. A sound column is re-encoded, with no refusal reported." What a call answers, and
 -- what it leaves in slots and output, over any kind of column.
-use Rattle.std.specs.Prelude.{ℕ, ◌≡◌, List, ◌++◌, map, Bool, cond, length, drop}
+use Rattle.std.specs.Prelude.{ℕ, ◌≡◌, List, ◌++◌, map, Bool, cond, length, drop, Result, Ok, Err}
+use Rattle.refusal.specs.Number as why
+use Rattle.refusal.specs.declared.Refusal.{Refusal}
 use Rattle.leb128.specs.Answer.{Answer, done, refused, within}
 use Rattle.encoding.specs.Column.{Reading}
 use Rattle.encoding.specs.Slots.{slot_of, flag_of, decoding}
-use Rattle.encoding.specs.Survivors.{number_of, place_of, surviving}
+use Rattle.encoding.specs.Survivors.{number_of, place_of, ending_of, surviving}
 use Rattle.encoding.specs.Walk.{Trace, outcome}
 use Rattle.text.specs.Name.{start_of, length_of}
 use Rattle.text_decoder.specs.Slots.{decoding_names}
-use Rattle.salvage.specs.declared.Salvaged.{Salvaged}
-use Rattle.salvage.specs.declared.Salvaged.TheVariants as salvaged
+use Rattle.salvage.specs.declared.Saved.{Saved}
 
 -- how many readings were kept and bytes written, and the column's fault, 0 and 0 where there is none; or the call's own refusal
 pub data Outcome : Type 0 where
   saved : ℕ → ℕ → ℕ → ℕ → Outcome
   refusal : ℕ → ℕ → Outcome
 
-abbrev pub outcome_of : Salvaged → Outcome
-outcome_of (salvaged.Saved kept written number place) = saved kept written number place
-outcome_of (salvaged.Refused number place) = refusal number place
+abbrev pub outcome_of : Result Saved Refusal → Outcome
+outcome_of (Ok s) = saved s.kept s.written (number_of (ending_of s.fault)) (place_of (ending_of s.fault))
+outcome_of (Err e) = refusal (why.number_of e.0) e.1
 
 -- "Order of the call's own refusals: 17, 8, 9, 10": whether the type is served; what the slots say of the readings kept, 8 or 9; and whether the
 -- output takes the bytes

@@ -1,10 +1,15 @@
 // What survives of a cut column: its definitions, the laws of what bytes behind it could change, and the answer of the calls.
 #![tactic(auto)]
 
-// How many readings were kept, how many bytes were written, and the column's first fault by number and place, 0 and 0 of a sound column; or the call's
-// own refusal.
-#[derive(Clone, Copy)]
-pub enum Salvaged {
-    Saved(u64, usize, u8, usize),
-    Refused(u8, usize),
+use refusal::Refusal;
+
+// How many readings were kept, how many bytes were written, and the column's first fault, none of a sound column.
+#[derive(Clone, Copy, Debug, PartialEq, Eq)]
+pub struct Saved {
+    pub kept: u64,
+    pub written: usize,
+    pub fault: Option<Refusal>,
 }
+
+// The call's own refusal is an error, the column's fault none.
+pub type Salvaged = Result<Saved, Refusal>;

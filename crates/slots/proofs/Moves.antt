@@ -1,4 +1,5 @@
--- Laws of the loops that move, put and clear elements of slots, over any element: where a loop starts, what a turn stores, where it ends.
+-- Laws of the loops that put and clear elements of slots, over any element: where a loop starts, what a turn stores, where it ends; and of a move to where
+-- they are.
 -- Assumes nothing.
 use mathlib.Core.Path.{◌≡◌, refl, sym, ap, ◌∙◌}
 use mathlib.Core.List.{List}
@@ -44,14 +45,3 @@ module _ {A : Type 0} where
   -- elements that stay where they are
   pub stay : (d : List A) (from to n : ℕ) → to ≡ from → d ≡ paste d to (drop from d) n
   stay d from to n e = rw (e, ← take-add from n d) (sym (take-append-drop (from + n) d))
-
-  -- where a move from the last one down starts and ends: of n elements the last n - i were stored
-  pub up_start : (d : List A) (from to n : ℕ) → Stored d (to + n) (drop (from + n) d) (n - n) d
-  up_start d from to n = let e : n - n ≡ 0 = omega arith in rw e (stored-none d (to + n) (drop (from + n) d))
-
-  pub up-end : {d s : List A} (from to n i : ℕ) → Stored d (to + i) (drop (from + i) d) (n - i) s → i ≤ 0 → s ≡ paste d to (drop from d) n
-  up-end {d} from to n i k h =
-      let a : to + i ≡ to = omega arith in
-      let b : from + i ≡ from = omega arith in
-      let e : n - i ≡ n = omega arith in
-      rw (a, b, e) at k.is

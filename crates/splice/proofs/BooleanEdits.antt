@@ -1,5 +1,5 @@
 -- An edit of a boolean column: its slots and its new list, where it is ready, and how it begins. Assumes nothing.
-use Prim.Native.Nat.{ℕ, ◌+◌, ◌-◌}
+use Prim.Native.Nat.{ℕ, ◌-◌}
 use mathlib.Core.Path.{◌≡◌, refl, sym, ap, ◌∙◌, subst}
 use mathlib.Core.List.{List, ◌++◌}
 use mathlib.Core.Option.{Option, none, some}
@@ -15,13 +15,12 @@ use Rattle.boolean_decoder.specs.Decoded.{Decoded}
 use Rattle.boolean_decoder.specs.Turns.{bool_trace}
 use Rattle.boolean_decoder.proofs.Clean.{Clean, clean-from, clean-append, clean-take, clean_drop, read-clean}
 use Rattle.slots.specs.Splice.{spliced, in_slots, spliced_slots, splice_answer}
-use Rattle.splice.specs.Edit.{Edited, end_in, flags_in, given_optional, given_boolean, refusal, answered, slots_left, out_left}
+use Rattle.splice.specs.Edit.{Edited, end_in, flags_in, given_optional, given_boolean, refusal, answered, slots_left, out_left, Spliced}
 use Rattle.splice.specs.declared.End.{End}
 use Rattle.splice.specs.Kinds.{boolean}
 use Rattle.splice.specs.Contract.{itself, BooleanSpliced}
 use Rattle.splice.specs.Ready.{Ready, Good, Finished}
 use Rattle.splice.specs.Steps.{ready, stopped, plan_for}
-use Rattle.splice.specs.declared.Spliced.{Spliced}
 use Rattle.splice.proofs.Planning.{sound-is, plan-stops, plan-ready, in_order}
 use Rattle.splice.proofs.Replacing.{splice-fits, in-loaded}
 use Rattle.splice.proofs.Editing.{new_list, new-length, edit-answer, edit-output, edit-slots}

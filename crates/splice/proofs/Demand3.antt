@@ -5,7 +5,7 @@
 use Prim.Native.Nat.{ℕ, ◌≤◌, ◌<◌}
 use mathlib.Core.Path.{◌≡◌, refl, sym, ap, ◌∙◌}
 use mathlib.Core.List.{List, [], map}
-use mathlib.Core.Option.{Option, none, some}
+use mathlib.Core.Option.{Option, none}
 use native.Mathlib.Omega.{arith}
 use lib.IntN.{ℤ, pos}
 use lib.ListN.{length, get_or, set, take, drop}
@@ -26,11 +26,9 @@ use Rattle.slots.specs.Splice.{spliced}
 use Rattle.text.specs.Given.{name_list, names_given}
 use Rattle.splice.specs.Kind.{Kind}
 use Rattle.splice.specs.Kinds.{integer, delta, boolean, text}
-use Rattle.splice.specs.Edit.{Edited, stop, late, accepted, end_in, given_optional, given_boolean, given_text, edit_in, edited}
-use Rattle.splice.specs.Edit.{acceptance, readings_of, answered, slots_left, out_left}
+use Rattle.splice.specs.Edit.{Edited, stop, late, accepted, end_in, given_optional, given_boolean, given_text, edit_in, edited, acceptance, readings_of, answered, slots_left, out_left, Spliced}
 use Rattle.splice.specs.Contract.{slot_in, flag_in, itself, starts_in, length_in, OptionalSpliced, BooleanSpliced, TextSpliced}
 use Rattle.splice.specs.Lent.{Lent}
-use Rattle.splice.specs.declared.Spliced.{Spliced}
 use Rattle.splice.specs.declared.End.{End}
 use Rattle.splice.proofs.Isolated.{Alike, both-stop, both-late, both-accepted, alike, OnlyElsewhere}
 use Rattle.splice.proofs.Isolated.{alike-answer, alike-slots, alike-behind, alike-refused}

@@ -15,10 +15,9 @@ use Rattle.column_part.specs.Part.{start_of}
 use Rattle.slots.specs.Splice.{spliced, in_slots}
 use Rattle.slots.proofs.Splicing.{length-spliced}
 use Rattle.splice.specs.Kind.{Kind}
-use Rattle.splice.specs.Edit.{Edited, accepted, end_in, refuses, finished, edited, answered, slots_left, out_left}
+use Rattle.splice.specs.Edit.{Edited, accepted, end_in, refuses, finished, edited, answered, slots_left, out_left, Spliced}
 use Rattle.splice.specs.declared.End.{End}
 use Rattle.splice.specs.Ready.{Ready, finished_at, Finished}
-use Rattle.splice.specs.declared.Spliced.{Spliced}
 use Rattle.splice.proofs.Planning.{sound-is, in_order}
 use Rattle.splice.proofs.Refusing.{refuses-answer, refuses-out, refuses-slots}
 

@@ -1,5 +1,5 @@
 -- An edit of optional readings: its slots and its new list, where it is ready, and how it begins. Assumes nothing.
-use Prim.Native.Nat.{ℕ, ◌+◌, ◌-◌}
+use Prim.Native.Nat.{ℕ, ◌-◌}
 use mathlib.Core.Path.{◌≡◌, refl, sym, ap, ◌∙◌, subst}
 use mathlib.Core.List.{List, ◌++◌, map}
 use mathlib.Core.Option.{Option, none, some}
@@ -17,12 +17,11 @@ use Rattle.encoding.specs.Walk.{Trace, outcome}
 use Rattle.slots.specs.Splice.{spliced, in_slots}
 use Rattle.slots.proofs.Splicing.{map-spliced}
 use Rattle.splice.specs.Kind.{Kind}
-use Rattle.splice.specs.Edit.{Edited, end_in, flags_in, given_optional, refusal, answered, slots_left, out_left}
+use Rattle.splice.specs.Edit.{Edited, end_in, flags_in, given_optional, refusal, answered, slots_left, out_left, Spliced}
 use Rattle.splice.specs.declared.End.{End}
 use Rattle.splice.specs.Contract.{slot_in, flag_in, OptionalSpliced}
 use Rattle.splice.specs.Ready.{Ready, Fits, Replaced, Good, Finished}
 use Rattle.splice.specs.Steps.{count_as, ready, stopped, plan_for}
-use Rattle.splice.specs.declared.Spliced.{Spliced}
 use Rattle.splice.proofs.Planning.{sound-is, plan-stops, plan-ready, in_order}
 use Rattle.splice.proofs.Replacing.{held-length, in-loaded, values_of, flags_of, back, flags-good, flags-kept}
 use Rattle.splice.proofs.Counting.{values-outcome}

@@ -15,8 +15,7 @@ use Rattle.encoding.specs.Given.{bad_flag, flags_judged, list_judged}
 use Rattle.encoding.specs.Walk.{Trace, Ending, sound, fault, outcome_of, outcome}
 use Rattle.raw_column.specs.Table.{Tab, tab, faulty, parse}
 use Rattle.block_frame.specs.Columns.{new_block}
-use Rattle.column_part.specs.Part.{start_of, no_part, row_part, part_in, part_at}
-use Rattle.column_part.specs.declared.Part.{Part}
+use Rattle.column_part.specs.Part.{start_of, no_part, row_part, part_in, part_at, Part}
 use Rattle.raw_column.proofs.Opening.{ParseOk, parse-ok, sum_to}
 use Rattle.block_frame.proofs.Tables.{table-fills}
 use Rattle.slots.specs.Splice.{spliced}
@@ -24,10 +23,8 @@ use Rattle.slots.proofs.Splicing.{length-spliced}
 use Rattle.text.specs.Given.{names_given}
 use Rattle.splice.specs.Kind.{Kind}
 use Rattle.splice.specs.Edit.{Edited, stop, end_in, below, serves, flags_in, given_optional, given_text, finished, edit_list, read_by, edit_column, edit_in, edited}
-use Rattle.splice.specs.Steps.{row_in, row_for, count_as, result_length, result_judged, Plan, ready, stopped, on_result, on_count, on_given, on_row, plan_for}
+use Rattle.splice.specs.Steps.{Row, stands, barred, row_in, row_for, count_as, result_length, result_judged, Plan, ready, stopped, on_result, on_count, on_given, on_row, plan_for}
 use Rattle.splice.specs.Ready.{Located, Ready}
-use Rattle.splice.specs.declared.Row.{Row}
-use Rattle.splice.specs.declared.Row.TheVariants as row
 use Rattle.splice.specs.declared.ColumnKind.{ColumnKind}
 use Rattle.splice.specs.declared.ColumnKind.TheVariants as kind
 use Rattle.splice.specs.declared.End.{End}
@@ -59,15 +56,15 @@ module _ (k : ColumnKind) (spec : ℕ) {t : ℕ} (e : t ≡ type_of spec) where
 module _ (kind : ColumnKind) (s : List ℕ) (position start : ℕ) (end : End) where
   -- what is known of a row that has a part: where it lies, and its specification
   abbrev RowAs : Part → Row → Type 0
-  RowAs p r = (p.number ≡ 0 → r ≡ cond (serves kind p.spec) (cond (below start end) (row.Refused 18 0) (row.At p.start (p.start + p.len))) (row.Refused 17 0))
-      × ((p.number ≡ 0 → ⊥) → r ≡ row.Refused p.number p.place)
+  RowAs p r = (p.number ≡ 0 → r ≡ cond (serves kind p.spec) (cond (below start end) (barred 18 0) (stands p.start (p.start + p.len))) (barred 17 0))
+      × ((p.number ≡ 0 → ⊥) → r ≡ barred p.number p.place)
 
   row_as : (t : Tab) → ParseOk (length s) t → RowAs (part_in position t) (row_in kind position start end t)
   row_as (faulty number place) h = (λ e. absurd (omega (arith, h, e)), λ e. refl)
   row_as (tab specs lens next) h = go (ltb position (length specs))
     where
       go : (b : Bool) → RowAs (cond b (row_part specs lens next position) (no_part 16 0))
-          (cond b (cond (serves kind (get_or specs position 0)) (cond (below start end) (row.Refused 18 0) (row.At (start_of lens next position) (start_of lens next position + get_or lens position 0))) (row.Refused 17 0)) (row.Refused 16 0))
+          (cond b (cond (serves kind (get_or specs position 0)) (cond (below start end) (barred 18 0) (stands (start_of lens next position) (start_of lens next position + get_or lens position 0))) (barred 17 0)) (barred 16 0))
       go true = (λ e. refl, λ e. absurd (e refl))
       go false = (λ e. absurd (omega (arith, e)), λ e. refl)
 
@@ -76,24 +73,24 @@ module _ (kind : ColumnKind) (s : List ℕ) (position start : ℕ) (end : End) w
     unfolding part_at row_for
     known = subst (λ (x : Part). RowAs x (row_in kind position start end (parse s))) (sym e) (row_as (parse s) (parse-ok s))
 
-    pub row-bad : (p.number ≡ 0 → ⊥) → row.Refused p.number p.place ≡ row_for kind s position start end
+    pub row-bad : (p.number ≡ 0 → ⊥) → barred p.number p.place ≡ row_for kind s position start end
     row-bad h = sym (known.1 h)
 
     module _ (h : p.number ≡ 0) where
-      pub row-17 : serves kind p.spec ≡ false → row.Refused 17 0 ≡ row_for kind s position start end
+      pub row-17 : serves kind p.spec ≡ false → barred 17 0 ≡ row_for kind s position start end
       row-17 f = sym (known.0 h ∙ rw f)
 
-      pub row-18 : serves kind p.spec ≡ true → below start end ≡ true → row.Refused 18 0 ≡ row_for kind s position start end
+      pub row-18 : serves kind p.spec ≡ true → below start end ≡ true → barred 18 0 ≡ row_for kind s position start end
       row-18 f g = sym (known.0 h ∙ rw (f, g))
 
-      pub row-given : serves kind p.spec ≡ true → below start end ≡ false → row.At p.start (p.start + p.len) ≡ row_for kind s position start end
+      pub row-given : serves kind p.spec ≡ true → below start end ≡ false → stands p.start (p.start + p.len) ≡ row_for kind s position start end
       row-given f g = sym (known.0 h ∙ rw (f, g))
 
 -- a row that was found
 module _ {kind : ColumnKind} {s : List ℕ} {position at till : ℕ} where
   located-in : (specs lens : List ℕ) (next : ℕ) → parse s ≡ tab specs lens next → position < length specs
       → serves kind (get_or specs position 0) ≡ true
-      → row.At (start_of lens next position) (start_of lens next position + get_or lens position 0) ≡ row.At at till
+      → stands (start_of lens next position) (start_of lens next position + get_or lens position 0) ≡ stands at till
       → Located kind s position at till
   located-in specs lens next e h v q =
       let a : start_of lens next position ≡ at = cc in
@@ -107,18 +104,18 @@ module _ {kind : ColumnKind} {s : List ℕ} {position at till : ℕ} where
         served = v;
       }
 
-  pub row-found : (start : ℕ) (end : End) → row.At at till ≡ row_for kind s position start end
+  pub row-found : (start : ℕ) (end : End) → stands at till ≡ row_for kind s position start end
       → Located kind s position at till × (below start end ≡ false)
   unfolding row_for
   row-found start end e = go (parse s) refl (sym e)
     where
-      go : (t : Tab) → parse s ≡ t → row_in kind position start end t ≡ row.At at till → Located kind s position at till × (below start end ≡ false)
+      go : (t : Tab) → parse s ≡ t → row_in kind position start end t ≡ stands at till → Located kind s position at till × (below start end ≡ false)
       go (faulty number place) p q = let z : ◌≡◌ {A = ℕ} 0 1 = cc in absurd (omega arith)
       go (tab specs lens next) p q = rows (ltb position (length specs)) (serves kind (get_or specs position 0)) (below start end) refl refl refl q
         where
           rows : (a b c : Bool) → ltb position (length specs) ≡ a → serves kind (get_or specs position 0) ≡ b → below start end ≡ c
-              → cond a (cond b (cond c (row.Refused 18 0) (row.At (start_of lens next position) (start_of lens next position + get_or lens position 0))) (row.Refused 17 0)) (row.Refused 16 0)
-              ≡ row.At at till
+              → cond a (cond b (cond c (barred 18 0) (stands (start_of lens next position) (start_of lens next position + get_or lens position 0))) (barred 17 0)) (barred 16 0)
+              ≡ stands at till
               → Located kind s position at till × (below start end ≡ false)
           rows true true false x y w q = (located-in specs lens next p (ltb-true position (length specs) x) y q, w)
           rows true true true x y w q = let z : ◌≡◌ {A = ℕ} 0 1 = cc in absurd (omega arith)
@@ -324,7 +321,7 @@ module _ {A : Type 0} (K : Kind A) (counts : (c : List ℕ) → count_as K.kind 
     where
       rows : (a b c : Bool) → ltb position (length specs) ≡ a → serves K.kind (get_or specs position 0) ≡ b → below start end ≡ c
           → Follows (on_row K.kind s start end given n slots
-          (cond a (cond b (cond c (row.Refused 18 0) (row.At (start_of lens next position) (start_of lens next position + get_or lens position 0))) (row.Refused 17 0)) (row.Refused 16 0)))
+          (cond a (cond b (cond c (barred 18 0) (stands (start_of lens next position) (start_of lens next position + get_or lens position 0))) (barred 17 0)) (barred 16 0)))
           (cond a
           (cond b (cond c (stop 18 0) (edit_column K (take (get_or lens position 0) (drop (start_of lens next position) s)) start end given new slots room (new_block s specs lens next position)))
           (stop 17 0)) (stop 16 0))

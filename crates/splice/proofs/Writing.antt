@@ -17,17 +17,16 @@ use Rattle.encoding.specs.Given.{slot_list, flags_judged, list_judged, sized, En
 use Rattle.delta_encoder.specs.Differences.{differences, wide_at, width_judged, delta_judged}
 use Rattle.raw_column.specs.Rows.{opened}
 use Rattle.raw_column.specs.Table.{tab, parse}
-use Rattle.raw_column.specs.declared.Opened.{Opened}
+use Rattle.raw_column.specs.declared.TableAnswer.{TableAnswer}
 use Rattle.raw_column.proofs.Opening.{open-bad, open-good}
 use Rattle.block_frame.specs.Columns.{new_block}
 use Rattle.block_frame.specs.Frame.{Framed, shut, room, front_of, tail_of, framed, frame_of, frame_out}
-use Rattle.block_frame.specs.declared.Frame.{Frame}
+use Rattle.block_frame.specs.Frame.{Frame}
 use Rattle.block_frame.proofs.Blocks.{others-kept, frame-given, frame_refused, frame-is-block, frame-filled}
 use Rattle.splice.specs.Kind.{Kind}
-use Rattle.splice.specs.Edit.{Edited, accepted, refuses, finished, refusal, acceptance, block_in, block_answer, readings_in, readings_of, answered, out_left}
+use Rattle.splice.specs.Edit.{Edited, accepted, refuses, finished, refusal, acceptance, block_in, block_answer, readings_in, readings_of, answered, out_left, Spliced}
 use Rattle.splice.proofs.Refusing.{refuses-answer, refuses-out}
 use Rattle.splice.specs.Ready.{HasRow, Good, put_behind, finished_at, Finished}
-use Rattle.splice.specs.declared.Spliced.{Spliced}
 
 -- ---- a good list is judged so, and its bytes fit where there is room
 pub good-judged : {n : ℕ} {flags : List ℕ} → Good n flags → list_judged n flags ≡ done n
@@ -76,15 +75,15 @@ module _ (bytes : List ℕ) (m : ℕ) where
   size-refused (some i) {number} {place} e = let p : i ≡ place = cc in (ap some p, cc)
 
 -- ---- the answer for bytes that were read as a table: refused as the table was, or its rows
-pub block_refused : (k : ℕ) (b : List ℕ) {o : Opened} → o ≡ opened (parse b) → (o.number ≡ 0 → ⊥) → refusal o.number o.place ≡ block_answer k b
+pub block_refused : (k : ℕ) (b : List ℕ) {o : TableAnswer} → o ≡ opened (parse b) → (o.number ≡ 0 → ⊥) → refusal o.number o.place ≡ block_answer k b
 unfolding block_answer
 block_refused k b e h = rw (open-bad b e h)
 
-pub block_read : (k : ℕ) (b : List ℕ) {o : Opened} {n : ℕ} → o ≡ opened (parse b) → o.number ≡ 0 → n ≡ length b
+pub block_read : (k : ℕ) (b : List ℕ) {o : TableAnswer} {n : ℕ} → o ≡ opened (parse b) → o.number ≡ 0 → n ≡ length b
     → record { table = o.table; number = 0; place = 0; len = n; readings = k } ≡ block_answer k b
 unfolding block_answer
 block_read k b {o} {n} e h l =
-    ap (λ (x : Opened). record { table = x.table; number = 0; place = 0; len = n; readings = k }) e
+    ap (λ (x : TableAnswer). record { table = x.table; number = 0; place = 0; len = n; readings = k }) e
     ∙ ap (λ (m : ℕ). record { table = (opened (parse b)).table; number = 0; place = 0; len = m; readings = k }) l
     ∙ sym (ap (block_in k b) (open-good b e h).is)
 

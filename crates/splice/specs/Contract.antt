@@ -8,8 +8,7 @@ use Rattle.text.specs.Text.{text_e}
 use Rattle.text.specs.Name.{start_of}
 use Rattle.text.specs.Given.{name_list}
 use Rattle.splice.specs.Kind.{Kind}
-use Rattle.splice.specs.Edit.{Edited, given_optional, given_boolean, given_text, edited, answered, slots_left, out_left}
-use Rattle.splice.specs.declared.Spliced.{Spliced}
+use Rattle.splice.specs.Edit.{Edited, given_optional, given_boolean, given_text, edited, answered, slots_left, out_left, Spliced}
 use Rattle.splice.specs.declared.End.{End}
 
 -- a reading's value in its slot, where `nought` is the element's 0, and its presence byte

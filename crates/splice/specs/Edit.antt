@@ -1,8 +1,10 @@
 -- 01, "Editing", over the kind of column. "Order: table faults; 16; 17; 18 for end below start; 8; column faults; 18 for start beyond the
 -- list; 5 for the result; 9 when slots are fewer than the longer of old and new list; 7; 10." 02, [12]: "Refuse an edit whose end lies beyond
 -- the list with 18, where the start is checked."
-use Rattle.std.specs.Prelude.{ℕ, ◌+◌, max, List, ◌++◌, Bool, false, cond, ◌&&◌, ltb, leb, eqb, length, get_or, take, drop}
+use Rattle.std.specs.Prelude.{ℕ, max, List, ◌++◌, Bool, false, cond, ◌&&◌, ltb, leb, eqb, length, get_or, take, drop, Result, Ok, Err}
 use Rattle.std.proofs.Math.Option.{Option, none, some}
+use Rattle.refusal.specs.Number.{number_of}
+use Rattle.refusal.specs.declared.Refusal.{Refusal}
 use Rattle.leb128.specs.Answer.{Answer, done, refused}
 use Rattle.column_specification.specs.Served.{integer_type, delta_type, boolean_type, text_type}
 use Rattle.column_specification.specs.Specification.{type_of}
@@ -10,6 +12,7 @@ use Rattle.encoding.specs.Limit.{limit}
 use Rattle.encoding.specs.Walk.{outcome}
 use Rattle.encoding.specs.Given.{bad_flag}
 use Rattle.raw_column.specs.Table.{Tab, tab, faulty, parse}
+use Rattle.raw_column.specs.declared.Table.{Table}
 use Rattle.block_frame.specs.Columns.{new_block}
 use Rattle.column_part.specs.Part.{start_of}
 use Rattle.raw_column.specs.Rows.{no_table, opened}
@@ -18,7 +21,7 @@ use Rattle.text.specs.Given.{names_given}
 use Rattle.splice.specs.Kind.{Kind}
 use Rattle.splice.specs.declared.ColumnKind.{ColumnKind}
 use Rattle.splice.specs.declared.ColumnKind.TheVariants as kind
-use Rattle.splice.specs.declared.Spliced.{Spliced}
+use Rattle.splice.specs.declared.Spliced as code
 use Rattle.splice.specs.declared.End.{End}
 use Rattle.splice.specs.declared.End.TheVariants as ending
 
@@ -114,12 +117,24 @@ module _ {A : Type 0} (K : Kind A) where
   edited s position start end given new slots room = edit_in s position start end given new slots room (parse s)
 
 -- what is answered: the new block's length, its table, as anyone reads it, and the new column's readings; or the refusal with a table of no rows
+pub record Spliced : Type 0 where
+  pub table : Table
+  pub number : ℕ
+  pub place : ℕ
+  pub len : ℕ
+  pub readings : ℕ
+
 abbrev pub refusal : ℕ → ℕ → Spliced
 refusal number place = record { table = no_table; number = number; place = place; len = 0; readings = 0 }
 
 abbrev pub acceptance : ℕ → List ℕ → Spliced
 acceptance readings block =
     record { table = (opened (parse block)).table; number = 0; place = 0; len = length block; readings = readings }
+
+-- what the code's answer stands for
+abbrev pub spliced_of : Result code.Spliced Refusal → Spliced
+spliced_of (Ok r) = record { table = r.table; number = 0; place = 0; len = r.len; readings = r.readings }
+spliced_of (Err e) = refusal (number_of e.0) e.1
 
 -- the same of any bytes: where they are no block, the table's refusal
 abbrev pub block_in : ℕ → List ℕ → Tab → Spliced

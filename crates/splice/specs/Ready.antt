@@ -10,11 +10,10 @@ use Rattle.block_frame.specs.Columns.{new_block}
 use Rattle.column_part.specs.Part.{start_of}
 use Rattle.slots.specs.Splice.{spliced, in_slots}
 use Rattle.splice.specs.Kind.{Kind}
-use Rattle.splice.specs.Edit.{Edited, stop, end_in, below, serves, finished, answered, out_left}
+use Rattle.splice.specs.Edit.{Edited, stop, end_in, below, serves, finished, answered, out_left, Spliced}
 use Rattle.splice.specs.Contract.{slot_in}
 use Rattle.splice.specs.Steps.{result_length}
 use Rattle.splice.specs.declared.ColumnKind.{ColumnKind}
-use Rattle.splice.specs.declared.Spliced.{Spliced}
 use Rattle.splice.specs.declared.End.{End}
 
 -- the row at a position, of a table that was accepted

@@ -1,6 +1,8 @@
 -- The checks before a slot is filled, by numbers alone, as `plan` answers them to the edits: what its promise cites. That they are those of an edit
 -- (Edit.antt) is proved (proofs/Planning.antt); no promise of an edit cites them.
-use Rattle.std.specs.Prelude.{ℕ, ◌+◌, ◌-◌, max, List, cond, ltb, length, get_or, take, drop}
+use Rattle.std.specs.Prelude.{ℕ, ◌+◌, ◌-◌, max, List, cond, ltb, length, get_or, take, drop, Result, Ok, Err}
+use Rattle.refusal.specs.Number.{number_of}
+use Rattle.refusal.specs.declared.Refusal.{Refusal}
 use Rattle.leb128.specs.Answer.{Answer, done, refused}
 use Rattle.encoding.specs.Limit.{limit}
 use Rattle.encoding.specs.Column.{trace}
@@ -15,20 +17,26 @@ use Rattle.splice.specs.Edit.{end_in, below, serves}
 use Rattle.splice.specs.declared.ColumnKind.{ColumnKind}
 use Rattle.splice.specs.declared.ColumnKind.TheVariants as kind
 use Rattle.splice.specs.declared.End.{End}
-use Rattle.splice.specs.declared.Row.{Row}
-use Rattle.splice.specs.declared.Row.TheVariants as row
-use Rattle.splice.specs.declared.Planned.{Planned}
-use Rattle.splice.specs.declared.Planned.TheVariants as planned
+use Rattle.splice.specs.declared.Found.{Found}
+
+-- where a row's column begins and ends in its block; or a refusal
+pub data Row : Type 0 where
+  stands : ℕ → ℕ → Row
+  barred : ℕ → ℕ → Row
+
+abbrev pub row_of : Result (ℕ × ℕ) Refusal → Row
+row_of (Ok (at, till)) = stands at till
+row_of (Err e) = barred (number_of e.0) e.1
 
 -- table faults; 16; 17; 18 for end below start
 abbrev pub row_in : ColumnKind → ℕ → ℕ → End → Tab → Row
-row_in kind position start end (faulty number place) = row.Refused number place
+row_in kind position start end (faulty number place) = barred number place
 row_in kind position start end (tab specs lens next) =
     cond (ltb position (length specs))
     (cond (serves kind (get_or specs position 0))
-    (cond (below start end) (row.Refused 18 0) (row.At (start_of lens next position) (start_of lens next position + get_or lens position 0)))
-    (row.Refused 17 0))
-    (row.Refused 16 0)
+    (cond (below start end) (barred 18 0) (stands (start_of lens next position) (start_of lens next position + get_or lens position 0)))
+    (barred 17 0))
+    (barred 16 0)
 
 unfoldable pub row_for : ColumnKind → List ℕ → ℕ → ℕ → End → Row
 row_for kind s position start end = row_in kind position start end (parse s)
@@ -58,9 +66,9 @@ pub data Plan : Type 0 where
   ready : ℕ → ℕ → ℕ → ℕ → Plan
   stopped : ℕ → ℕ → Plan
 
-abbrev pub plan_of : Planned → Plan
-plan_of (planned.Ready found) = ready found.at found.till found.old found.len
-plan_of (planned.Refused number place) = stopped number place
+abbrev pub plan_of : Result Found Refusal → Plan
+plan_of (Ok found) = ready found.at found.till found.old found.len
+plan_of (Err e) = stopped (number_of e.0) e.1
 
 abbrev pub on_result : ℕ → ℕ → ℕ → Answer → Plan
 on_result at till old (done n) = ready at till old n
@@ -78,8 +86,8 @@ on_given kind s at till start end new slots (done g) = column_planned kind s at 
 on_given kind s at till start end new slots (refused number place) = stopped number place
 
 abbrev pub on_row : ColumnKind → List ℕ → ℕ → End → Answer → ℕ → ℕ → Row → Plan
-on_row kind s start end given new slots (row.At at till) = on_given kind s at till start end new slots given
-on_row kind s start end given new slots (row.Refused number place) = stopped number place
+on_row kind s start end given new slots (stands at till) = on_given kind s at till start end new slots given
+on_row kind s start end given new slots (barred number place) = stopped number place
 
 abbrev pub plan_for : ColumnKind → List ℕ → ℕ → ℕ → End → Answer → ℕ → ℕ → Plan
 plan_for kind s position start end given new slots = on_row kind s start end given new slots (row_for kind s position start end)

@@ -5,21 +5,19 @@
 ghost use Rattle.std.specs.Prelude.{◌≡◌, ◌+◌, ◌≤◌, false, leb, length, take};
 ghost use Rattle.encoding.specs.Cases.{answer_of};
 ghost use Rattle.encoding.specs.Limit.{limit};
-ghost use Rattle.splice.specs.Edit.{end_in, below, serves, given_optional, given_text, refusal, readings_in, block_answer};
-ghost use Rattle.splice.specs.Steps.{row_for, count_as, result_judged, on_result, column_planned, plan_of, plan_for};
+ghost use Rattle.splice.specs.Edit.{end_in, below, serves, given_optional, given_text, readings_in, block_answer, spliced_of};
+ghost use Rattle.splice.specs.Steps.{row_of, row_for, count_as, result_judged, column_planned, plan_of, plan_for};
 
 use column_specification::ColumnSpec;
 use encoding::{Answer, LIMIT};
 use raw_column::{Table, read_table};
+use refusal::{Refusal, Why};
 
 mod lent;
 
-// The new block's table and length, and how many readings its new column has; or a refusal's number and place, and a table of no rows. The number
-// is 0 where there is none.
+// The new block's table and length, and how many readings its new column has.
 #[derive(Clone, Copy)]
 pub struct Spliced {
-    pub number: u8,
-    pub place: usize,
     pub len: usize,
     pub readings: usize,
     pub table: Table,
@@ -41,13 +39,6 @@ pub enum End {
     OfList,
 }
 
-// Where a row's column begins and ends in its block; or a refusal.
-#[derive(Clone, Copy)]
-enum Row {
-    At(usize, usize),
-    Refused(u8, usize),
-}
-
 // What is known of an edit that is ready: where its column begins and ends in the block, and how long the old list is and the new one.
 #[derive(Clone, Copy)]
 pub struct Found {
@@ -57,12 +48,8 @@ pub struct Found {
     pub len: usize,
 }
 
-// An edit that no check stops before the slots are filled; or a refusal.
-#[derive(Clone, Copy)]
-pub enum Planned {
-    Ready(Found),
-    Refused(u8, usize),
-}
+// An edit that no check stops before the slots are filled.
+pub type Planned = Result<Found, Refusal>;
 
 // Is the specification's type one of the kind?
 fn is_served(kind: ColumnKind, spec: u32) -> bool
@@ -87,21 +74,24 @@ fn is_below(end: End, start: usize) -> bool
     }
 }
 
-// Table faults, 16, 17, and 18 for an end below its start.
-fn row_at(block: &[u8], position: usize, kind: ColumnKind, start: usize, end: End) -> Row
-    ensures { result ≡ row_for kind block.now position start end }
+// Where a row's column begins and ends in its block: table faults, 16, 17, and 18 for an end below its start.
+fn row_at(
+    block: &[u8],
+    position: usize,
+    kind: ColumnKind,
+    start: usize,
+    end: End,
+) -> Result<(usize, usize), Refusal>
+    ensures { row_of result ≡ row_for kind block.now position start end }
 {
-    let p = column_part::locate(block, position);
-    if p.number != 0 {
-        return Row::Refused(p.number, p.place);
-    }
+    let p = column_part::locate(block, position)?;
     if !is_served(kind, p.spec) {
-        return Row::Refused(17, 0);
+        return Err(Refusal(Why::NotServed, 0));
     }
     if is_below(end, start) {
-        return Row::Refused(18, 0);
+        return Err(Refusal(Why::BadRange, 0));
     }
-    Row::At(p.start, p.start + p.len)
+    Ok((p.start, p.start + p.len))
 }
 
 // 8: lengths first, then the first bad presence byte. How many readings there may be is judged of the result alone.
@@ -109,16 +99,14 @@ fn judge_new(values: usize, present: usize, new: usize, new_present: &[u8]) -> A
     ensures { answer_of result ≡ given_optional values present new new_present.now }
 {
     if values != present {
-        return Answer::Refused(8, 0);
+        return Err(Refusal(Why::BadList, 0));
     }
     match given_list::judge_list(new, new_present) {
-        Answer::Done(_) => Answer::Done(0),
-        Answer::Refused(n, place) => {
-            if n == 5 {
-                return Answer::Done(0);
-            }
-            Answer::Refused(n, place)
-        }
+        Ok(_) => Ok(0),
+        Err(Refusal(why, place)) => match why {
+            Why::TooMany => Ok(0),
+            _ => Err(Refusal(why, place)),
+        },
     }
 }
 
@@ -135,10 +123,10 @@ fn judge_names(
     ensures { answer_of result ≡ given_text starts lens present bytes.now new_starts.now new_lens.now new_present.now }
 {
     if starts != lens {
-        return Answer::Refused(8, 0);
+        return Err(Refusal(Why::BadList, 0));
     }
     if lens != present {
-        return Answer::Refused(8, 0);
+        return Err(Refusal(Why::BadList, 0));
     }
     given_names::check_names(bytes, new_starts, new_lens, new_present)
 }
@@ -182,48 +170,24 @@ fn judge_result(old: usize, start: usize, end: End, new: usize, slots: usize) ->
     ensures { answer_of result ≡ result_judged old start end new slots }
 {
     if old < start {
-        return Answer::Refused(18, 0);
+        return Err(Refusal(Why::BadRange, 0));
     }
     let e = end_in(end, old);
     if old < e {
-        return Answer::Refused(18, 0);
+        return Err(Refusal(Why::BadRange, 0));
     }
     let kept = start + (old - e);
     if !may_have(kept, new) {
-        return Answer::Refused(5, 0);
+        return Err(Refusal(Why::TooMany, 0));
     }
     let len = kept + new;
     if slots < old {
-        return Answer::Refused(9, 0);
+        return Err(Refusal(Why::TooFewSlots, 0));
     }
     if slots < len {
-        return Answer::Refused(9, 0);
+        return Err(Refusal(Why::TooFewSlots, 0));
     }
-    Answer::Done(len as u64)
-}
-
-// The column from `at` up to `till` has `old` readings.
-fn plan_result(
-    at: usize,
-    till: usize,
-    old: usize,
-    start: usize,
-    end: End,
-    new: usize,
-    slots: usize,
-) -> Planned
-    requires { below start end ≡ false }
-    ensures { plan_of result ≡ on_result at till old (result_judged old start end new slots) }
-{
-    match judge_result(old, start, end, new, slots) {
-        Answer::Done(len) => Planned::Ready(Found {
-            at: at,
-            till: till,
-            old: old,
-            len: len as usize,
-        }),
-        Answer::Refused(n, place) => Planned::Refused(n, place),
-    }
+    Ok(len as u64)
 }
 
 // Column faults and what follows them, of the column from `at` up to `till`.
@@ -240,10 +204,9 @@ fn plan_column(
     requires { (at ≤ till) × (till ≤ length block.now) × (below start end ≡ false) }
     ensures { plan_of result ≡ column_planned kind block.now at till start end new slots }
 {
-    match count_as(kind, &block[at..till]) {
-        Answer::Done(old) => plan_result(at, till, old as usize, start, end, new, slots),
-        Answer::Refused(n, place) => Planned::Refused(n, place),
-    }
+    let old = count_as(kind, &block[at..till])? as usize;
+    let len = judge_result(old, start, end, new, slots)? as usize;
+    Ok(Found { at, till, old, len })
 }
 
 // Everything that can stop an edit before a slot is filled.
@@ -260,13 +223,9 @@ pub fn plan(
 ) -> Planned
     ensures { plan_of result ≡ plan_for kind block.now position start end (given_optional values present new new_present.now) new values }
 {
-    match row_at(block, position, kind, start, end) {
-        Row::At(at, till) => match judge_new(values, present, new, new_present) {
-            Answer::Done(_) => plan_column(block, at, till, kind, start, end, new, values),
-            Answer::Refused(n, place) => Planned::Refused(n, place),
-        },
-        Row::Refused(n, place) => Planned::Refused(n, place),
-    }
+    let (at, till) = row_at(block, position, kind, start, end)?;
+    judge_new(values, present, new, new_present)?;
+    plan_column(block, at, till, kind, start, end, new, values)
 }
 
 // The same of an edit of names.
@@ -287,48 +246,26 @@ pub fn plan_text(
         (given_text starts lens present bytes.now new_starts.now new_lens.now new_present.now)
         (length new_starts.now) starts }
 {
-    match row_at(block, position, ColumnKind::Text, start, end) {
-        Row::At(at, till) => match judge_names(
-            starts,
-            lens,
-            present,
-            bytes,
-            new_starts,
-            new_lens,
-            new_present,
-        ) {
-            Answer::Done(_) => plan_column(
-                block,
-                at,
-                till,
-                ColumnKind::Text,
-                start,
-                end,
-                new_starts.len(),
-                starts,
-            ),
-            Answer::Refused(n, place) => Planned::Refused(n, place),
-        },
-        Row::Refused(n, place) => Planned::Refused(n, place),
-    }
-}
-
-pub fn refused(number: u8, place: usize) -> Spliced
-    ensures { result ≡ refusal number place }
-{
-    let t = Table {
-        specs: [0u32; 64],
-        starts: [0u64; 64],
-        lens: [0u64; 64],
-        rows: 0,
-    };
-    Spliced {
-        number: number,
-        place: place,
-        len: 0,
-        readings: 0,
-        table: t,
-    }
+    let (at, till) = row_at(block, position, ColumnKind::Text, start, end)?;
+    judge_names(
+        starts,
+        lens,
+        present,
+        bytes,
+        new_starts,
+        new_lens,
+        new_present,
+    )?;
+    plan_column(
+        block,
+        at,
+        till,
+        ColumnKind::Text,
+        start,
+        end,
+        new_starts.len(),
+        starts,
+    )
 }
 
 // How many readings a column of so many bytes has that was written for a list of so many: none where nothing was written.
@@ -343,20 +280,14 @@ fn readings_in(size: usize, listed: usize) -> usize
 
 // The answer for a block of `len` bytes at the front of `out`, whose new column has `size` bytes, written for a list of so many readings: its table
 // and length, or the table's own refusal.
-pub fn block_answer(out: &[u8], len: usize, size: usize, listed: usize) -> Spliced
-    ensures { result ≡ block_answer (readings_in size listed) (take len out.now) }
+pub fn block_answer(out: &[u8], len: usize, size: usize, listed: usize) -> Result<Spliced, Refusal>
+    ensures { spliced_of result ≡ block_answer (readings_in size listed) (take len out.now) }
 {
     let n = if len < out.len() { len } else { out.len() };
-    let o = read_table(&out[..n]);
-    if o.number != 0 {
-        return refused(o.number, o.place);
-    }
-    let t = o.table;
-    Spliced {
-        number: 0,
-        place: 0,
+    let o = read_table(&out[..n])?;
+    Ok(Spliced {
         len: n,
         readings: readings_in(size, listed),
-        table: t,
-    }
+        table: o.table,
+    })
 }

@@ -1,52 +1,72 @@
 -- The first row that falls and the first that is compressed: one row more, and the end; whether there is one; and what is true of it and of those before it. Assumes nothing.
-use mathlib.Core.Path.{◌≡◌, refl, ap}
+use mathlib.Core.Path.{◌≡◌, refl, sym, ap}
 use mathlib.Core.List.{List, [], ◌∷◌}
-use mathlib.Core.Bool.{Bool, true, false, cond}
+use mathlib.Core.Bool.{Bool, true, false, cond, not}
 use Prim.Native.Nat.{ℕ, zero, suc, ◌+◌, ◌≤◌, ◌<◌}
 use native.Mathlib.Omega.{arith}
-use lib.ListN.{length, get_or, take, drop}
+use lib.ListN.{length, get_or, drop}
+use Rattle.std.proofs.Common.{drop_of_length-le}
 use lib.Dec.{ltb}
 use borrow.Author.Tests.{ltb-true, ltb-false, lt-ltb, le-ltb}
 use Rattle.column_specification.specs.Key.{key}
 use Rattle.column_specification.specs.Specification.{compressed_of}
 use Rattle.raw_column.specs.Table.{in_order, plain, sum}
-use Rattle.raw_column.proofs.Opening.{next_of, none_left}
+use Rattle.std.specs.Prelude.{Option, Some, None}
+use Rattle.std.proofs.lemmas.Option.{cond_some, none-some}
+use Rattle.std.proofs.lemmas.List.{drop_more}
+use Rattle.std.specs.List.{position_or_len}
+use Rattle.table_reason.specs.Rows.{first_of}
 use Rattle.table_reason.specs.TableReason.{first_fall, first_compressed}
 
--- ---- over the first n: one element more, and the end
-module _ (xs : List ℕ) (n i : ℕ) (h : n ≤ length xs) (t : i < n) where
-  pub fall-hit : {last k : ℕ} → k ≡ key (get_or xs i 0) → k < last → first_fall last (drop i (take n xs)) ≡ 0
+-- ---- what a search over n rows answers, that ends at k
+pub first-some : {i k n : ℕ} → Some i ≡ first_of k n → (i ≡ k) × (k < n)
+first-some {i} {k} {n} e = let w = cond_some (ltb k n) k i (sym e) in (sym w.1, ltb-true k n w.0)
+
+pub first-none : {k n : ℕ} → None ≡ first_of k n → n ≤ k
+first-none {k} {n} e = go (ltb k n) refl e
+  where
+    go : (b : Bool) → ltb k n ≡ b → ◌≡◌ {A = Option ℕ} None (cond b (Some k) None) → n ≤ k
+    go true f g = absurd (none-some k g)
+    go false f g = ltb-false k n f
+
+pub first-at : {k n : ℕ} → k < n → Some k ≡ first_of k n
+first-at {k} {n} h = rw (lt-ltb k n h)
+
+pub first-past : {k n : ℕ} → n ≤ k → None ≡ first_of k n
+first-past {k} {n} h = rw (le-ltb k n h)
+
+-- ---- one element more, and the end
+module _ (xs : List ℕ) (i : ℕ) (t : i < length xs) where
+  pub fall-hit : {last k : ℕ} → k ≡ key (get_or xs i 0) → k < last → first_fall last (drop i xs) ≡ 0
   unfolding first_fall
-  fall-hit {last} {k} e l = rw (next_of xs n i h t, ← e, lt-ltb k last l)
+  fall-hit {last} {k} e l = rw (drop_more xs i 0 t, ← e, lt-ltb k last l)
 
-  pub fall-on : {last k : ℕ} → k ≡ key (get_or xs i 0) → last ≤ k → first_fall last (drop i (take n xs)) ≡ suc (first_fall k (drop (i + 1) (take n xs)))
+  pub fall-on : {last k : ℕ} → k ≡ key (get_or xs i 0) → last ≤ k → first_fall last (drop i xs) ≡ suc (first_fall k (drop (i + 1) xs))
   unfolding first_fall
-  fall-on {last} {k} e l = rw (next_of xs n i h t, ← e, le-ltb k last l)
+  fall-on {last} {k} e l = rw (drop_more xs i 0 t, ← e, le-ltb k last l)
 
-  pub compressed-hit : compressed_of (get_or xs i 0) ≡ true → first_compressed (drop i (take n xs)) ≡ 0
-  unfolding first_compressed
-  compressed-hit e = rw (next_of xs n i h t, e)
-
-  pub compressed-on : compressed_of (get_or xs i 0) ≡ false → first_compressed (drop i (take n xs)) ≡ suc (first_compressed (drop (i + 1) (take n xs)))
-  unfolding first_compressed
-  compressed-on e = rw (next_of xs n i h t, e)
-
-  pub sum-on : sum (drop i (take n xs)) ≡ get_or xs i 0 + sum (drop (i + 1) (take n xs))
+  pub sum-on : sum (drop i xs) ≡ get_or xs i 0 + sum (drop (i + 1) xs)
   unfolding sum
-  sum-on = rw (next_of xs n i h t)
+  sum-on = rw (drop_more xs i 0 t)
 
-module _ (xs : List ℕ) (n i : ℕ) (h : n ≤ i) where
-  pub fall-end : (last : ℕ) → first_fall last (drop i (take n xs)) ≡ 0
+module _ (xs : List ℕ) (i : ℕ) (h : length xs ≤ i) where
+  pub fall-end : (last : ℕ) → first_fall last (drop i xs) ≡ 0
   unfolding first_fall
-  fall-end last = rw (none_left xs n i h)
+  fall-end last = rw (drop_of_length-le xs h)
 
-  pub compressed-end : first_compressed (drop i (take n xs)) ≡ 0
-  unfolding first_compressed
-  compressed-end = rw (none_left xs n i h)
-
-  pub sum-end : sum (drop i (take n xs)) ≡ 0
+  pub sum-end : sum (drop i xs) ≡ 0
   unfolding sum
-  sum-end = rw (none_left xs n i h)
+  sum-end = rw (drop_of_length-le xs h)
+
+-- the first that is compressed is the first of which the bit is true
+pub compressed-position : (specs : List ℕ) → position_or_len compressed_of specs ≡ first_compressed specs
+unfolding first_compressed
+compressed-position [] = refl
+compressed-position (spec ∷ specs) = go (compressed_of spec) (compressed-position specs)
+  where
+    go : (b : Bool) {k n : ℕ} → k ≡ n → cond (not b) (1 + k) 0 ≡ cond b 0 (suc n)
+    go true e = refl
+    go false e = omega arith
 
 -- ---- the first that falls
 -- the key before row i, that before all rows being k

@@ -4,14 +4,17 @@ use mathlib.Core.List.{List, [], ◌∷◌, append-nil}
 use Prim.Native.Nat.{ℕ, zero, suc, ◌+◌, ◌-◌, ◌≤◌, ◌<◌}
 use native.Mathlib.Omega.{arith}
 use lib.ListN.{length, set, replicate}
-use borrow.Author.Tests.{ne_eqb}
+use Rattle.std.specs.Prelude.{Ok, Err}
+use Rattle.refusal.specs.Number.{number_of}
+use Rattle.refusal.specs.declared.Refusal.{Refusal}
 use Rattle.leb128.specs.Got.{Got, got, bad}
 use Rattle.leb128.specs.Read.{u64_at, u32_at}
 use Rattle.leb128.proofs.Laws.{u64-next}
-use Rattle.leb128.proofs.Refusals.{u64-fault, u32-fault}
 use Rattle.raw_column.specs.Table.{Tab, tab, faulty, with_number, with_row, rows_at}
-use Rattle.raw_column.proofs.Opening.{row-bad, row-bad-len, row-good, Going, going_start, going-bad, going-turn}
-use Rattle.table_reason.specs.Rows.{no_rows, WasRead}
+use Rattle.raw_column.specs.Rows.{Taken}
+use Rattle.raw_column.specs.declared.Row.{Row}
+use Rattle.raw_column.proofs.Opening.{Going, going_start, going-bad, going-turn}
+use Rattle.table_reason.specs.Rows.{WasRead}
 use Rattle.table_reason.specs.TableReason.{passed, rows_read}
 use Rattle.table_reason.specs.True.{RowBad, bad_spec, bad_len, RowUnread}
 
@@ -68,36 +71,55 @@ reading-start s at n =
 less : (n i : ℕ) → i < n → n - i ≡ suc (n - (i + 1))
 less n i h = omega arith
 
--- a refusal, behind i rows
-refused : {s : List ℕ} {at n i number place : ℕ} → i ≡ rows_read n s at → faulty number place ≡ rows_at n s at → 0 < number → WasRead s at n (no_rows number place i)
-refused {s} {at} {n} {i} {number} {place} k e h = record { rows = rw (ne_eqb number 0 (omega arith)) e; read = k }
+-- ---- a row is one that reads, or none: how many rows read behind it
+abbrev next_in : Tab → ℕ
+next_in (tab specs lens next) = next
+next_in (faulty number place) = 0
+
+row-none : (s : List ℕ) (p n : ℕ) {number place : ℕ} → ((k : ℕ) → rows_at (suc k) s p ≡ faulty number place) → rows_read (suc n) s p ≡ 0
+unfolding rows_at rows_read
+row-none s p n {number} {place} h = go (u32_at s p) (h 0)
+  where
+    behind : (spec : ℕ) (g : Got ℕ) → with_number g (λ len r. tab (spec ∷ []) (len ∷ []) r) ≡ faulty number place
+        → passed g (λ len r. suc (rows_read n s r)) ≡ 0
+    behind spec (got len r) e = cc
+    behind spec (bad number place) e = refl
+
+    go : (g : Got ℕ) → with_number g (λ spec q. with_number (u64_at s q) (λ len r. tab (spec ∷ []) (len ∷ []) r)) ≡ faulty number place
+        → passed g (λ spec q. passed (u64_at s q) (λ len r. suc (rows_read n s r))) ≡ 0
+    go (got spec q) e = behind spec (u64_at s q) e
+    go (bad number place) e = refl
+
+row-one : (s : List ℕ) (p n : ℕ) (r : Row) → Taken s p r → rows_read (suc n) s p ≡ suc (rows_read n s r.next)
+unfolding rows_at rows_read
+row-one s p n row h = go (u32_at s p) (h.2 0)
+  where
+    behind : (spec : ℕ) (g : Got ℕ) → with_number g (λ len r. tab (spec ∷ []) (len ∷ []) r) ≡ tab (row.spec ∷ []) (row.len ∷ []) row.next
+        → passed g (λ len r. suc (rows_read n s r)) ≡ suc (rows_read n s row.next)
+    behind spec (got len r) e = ap (λ (k : ℕ). suc (rows_read n s k)) (ap next_in e)
+    behind spec (bad number place) e = cc
+
+    go : (g : Got ℕ) → with_number g (λ spec q. with_number (u64_at s q) (λ len r. tab (spec ∷ []) (len ∷ []) r)) ≡ tab (row.spec ∷ []) (row.len ∷ []) row.next
+        → passed g (λ spec q. passed (u64_at s q) (λ len r. suc (rows_read n s r))) ≡ suc (rows_read n s row.next)
+    go (got spec q) e = behind spec (u64_at s q) e
+    go (bad number place) e = cc
 
 module _ {s : List ℕ} {at n : ℕ} {specs lens : List ℕ} {i p : ℕ} (g : Reading s at n specs lens i p) (t : i < n) where
-  pub reading-bad : {r place : ℕ} → u32_at s p ≡ bad r place → WasRead s at n (no_rows r place i)
-  unfolding rows_read
-  reading-bad {r} {place} e =
-      let z : rows_read (n - i) s p ≡ 0 = rw (less n i t, e) in
-      refused (omega (arith, g.read)) (going-bad g.going t (row-bad s p e)) (u32-fault s p r place e)
+  pub reading-bad : {e : Refusal} → ((k : ℕ) → rows_at (suc k) s p ≡ faulty (number_of e.0) e.1) → WasRead s at n (Err (e, i))
+  reading-bad {e} h =
+      let z : rows_read (n - i) s p ≡ 0 = rw (less n i t) (row-none s p (n - (i + 1)) h) in
+      record { rows = going-bad g.going t h; read = omega (arith, g.read) }
 
-  module _ {spec q : ℕ} (e : u32_at s p ≡ got spec q) where
-    pub reading-bad-len : {r place : ℕ} → u64_at s q ≡ bad r place → WasRead s at n (no_rows r place i)
-    unfolding rows_read
-    reading-bad-len {r} {place} f =
-        let z : rows_read (n - i) s p ≡ 0 = rw (less n i t, e, f) in
-        refused (omega (arith, g.read)) (going-bad g.going t (row-bad-len s p e f)) (u64-fault s q r place f)
-
-    pub reading-turn : {len r : ℕ} → n ≤ 64 → u64_at s q ≡ got len r → Reading s at n (set specs i spec) (set lens i len) (i + 1) r
-    unfolding rows_read
-    reading-turn {len} {r} h f =
-        let w : rows_read (n - i) s p ≡ suc (rows_read (n - (i + 1)) s r) = rw (less n i t, e, f) in
-        record { going = going-turn g.going t spec len h (row-good s p e f); read = omega (arith, g.read) }
+  pub reading-turn : (r : Row) → n ≤ 64 → Taken s p r → Reading s at n (set specs i r.spec) (set lens i r.len) (i + 1) r.next
+  reading-turn r h w =
+      let z : rows_read (n - i) s p ≡ suc (rows_read (n - (i + 1)) s r.next) = rw (less n i t) (row-one s p (n - (i + 1)) r w) in
+      record { going = going-turn g.going t r.spec r.len h w.2; read = omega (arith, g.read) }
 
 -- the answer after the last turn
 pub reading-out : {s : List ℕ} {at n : ℕ} {specs lens : List ℕ} {i p : ℕ} → Reading s at n specs lens i p → n ≤ i
-    → WasRead s at n (record { specs = specs; lens = lens; number = 0; place = 0; next = p; read = i })
-unfolding rows_read rows_at
+    → WasRead s at n (Ok (record { specs = specs; lens = lens; next = p }))
+unfolding rows_at
 reading-out {s} {at} {n} {specs} {lens} {i} {p} g m =
     let z : n - i ≡ 0 = omega arith in
     let e : i ≡ n = omega (arith, g.going.within) in
-    let w : rows_read (n - i) s p ≡ 0 = rw z in
-    record { rows = rw (← g.going.rest, z, e) (simp append-nil); read = omega (arith, g.read) }
+    record { rows = rw (← g.going.rest, z, e) (simp append-nil); read = tt }

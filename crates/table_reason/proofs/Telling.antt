@@ -6,12 +6,14 @@ use mathlib.Core.Option.{none}
 use Prim.Native.Nat.{ℕ, ◌+◌, ◌*◌, ◌-◌, ◌^◌, ◌≤◌, ◌<◌}
 use native.Mathlib.Omega.{arith}
 use lib.ListN.{length, get_or, take}
-use lib.Seq.{length-take-le, get_or-take}
-use borrow.Author.Tests.{lt-ltb, le-ltb, eq-eqb, ne_eqb}
+use borrow.Author.Tests.{lt-ltb, le-ltb}
+use Rattle.std.specs.Prelude.{Some, None, Ok, Err}
+use Rattle.refusal.specs.Number.{number_of}
+use Rattle.refusal.specs.declared.Refusal.{Refusal}
 use Rattle.leb128.specs.Got.{got, bad}
 use Rattle.leb128.specs.Read.{u64_at}
-use Rattle.raw_column.specs.Table.{tab, rows_at, in_order, plain, sum}
-use Rattle.table_reason.specs.Rows.{WasRead}
+use Rattle.raw_column.specs.Table.{rows_at, in_order, sum}
+use Rattle.table_reason.specs.Rows.{WasRead, first_of}
 use Rattle.table_reason.specs.TableReason.{
   columns,
   falls,
@@ -30,7 +32,7 @@ use Rattle.table_reason.specs.TableReason.{
   table_reason,
 }
 use Rattle.table_reason.specs.declared.Rows.{Rows}
-use Rattle.table_reason.proofs.Firsts.{falls-so, falls-not, compressed-so, compressed-not, fall-behind}
+use Rattle.table_reason.proofs.Firsts.{first-some, first-none, falls-so, falls-not, compressed-so, compressed-not, fall-behind}
 use Rattle.table_reason.proofs.Reading.{RowsEnd, rows_end}
 
 -- ---- told_lengths, of a sum in two numbers
@@ -57,53 +59,42 @@ module _ (lens : List ℕ) (high low room : ℕ) (e : high * 2 ^ 64 + low ≡ su
       rw (le-ltb room (sum lens) g, le-ltb (sum lens) room k)
 
 -- ---- told_rows
-module _ (n : ℕ) (specs : List ℕ) (h : n ≤ length specs) {i : ℕ} (e : i ≡ first_fall 0 (take n specs)) where
-  long : length (take n specs) ≡ n
-  long = length-take-le n specs h
+module _ (specs : List ℕ) where
+  module _ {i : ℕ} (e : Some i ≡ first_of (first_fall 0 specs) (length specs)) where
+    falling : in_order 0 specs ≡ false
+    falling = falls-so specs (first-some e).1
 
-  falling : i < n → in_order 0 (take n specs) ≡ false
-  falling t = falls-so (take n specs) (omega (arith, long))
+    -- the row that falls has one before it
+    pub rows_behind : 0 < i
+    rows_behind = omega (arith, fall-behind specs falling, (first-some e).0)
 
-  ordered : n ≤ i → in_order 0 (take n specs) ≡ true
-  ordered m = falls-not (take n specs) (omega (arith, long))
+    pub rows-12 : (size : ℕ) (lens : List ℕ) (next : ℕ)
+        → because 12 0 (row i) (falls (get_or specs (i - 1) 0) (get_or specs i 0)) ≡ judged_reason size specs lens next
+    rows-12 size lens next = rw (falling, (first-some e).0)
 
-  -- the row that falls has one before it
-  pub rows_behind : i < n → 0 < i
-  rows_behind t = omega (arith, fall-behind (take n specs) (falling t))
+  module _ (e : None ≡ first_of (first_fall 0 specs) (length specs)) (size : ℕ) (lens : List ℕ) (next : ℕ) where
+    ordered : in_order 0 specs ≡ true
+    ordered = falls-not specs (first-none e)
 
-  module _ (size : ℕ) (lens : List ℕ) (next : ℕ) where
-    pub rows-12 : i < n → because 12 0 (row i) (falls (get_or specs (i - 1) 0) (get_or specs i 0)) ≡ judged_reason size (take n specs) lens next
-    rows-12 t =
-        let a : get_or (take n specs) (i - 1) 0 ≡ get_or specs (i - 1) 0 = get_or-take n specs (i - 1) 0 (omega arith) in
-        let b : get_or (take n specs) i 0 ≡ get_or specs i 0 = get_or-take n specs i 0 t in
-        rw (falling t, ← e, a, b)
+    pub rows-13 : {j : ℕ} → Some j ≡ first_of (first_compressed specs) (length specs)
+        → because 13 0 (row j) (compressed (get_or specs j 0)) ≡ judged_reason size specs lens next
+    rows-13 f = rw (ordered, compressed-so specs (first-some f).1, (first-some f).0)
 
-    module _ (m : n ≤ i) {j : ℕ} (f : j ≡ first_compressed (take n specs)) where
-      pub rows-13 : j < n → because 13 0 (row j) (compressed (get_or specs j 0)) ≡ judged_reason size (take n specs) lens next
-      rows-13 t =
-          let p : plain (take n specs) ≡ false = compressed-so (take n specs) (omega (arith, long)) in
-          let b : get_or (take n specs) j 0 ≡ get_or specs j 0 = get_or-take n specs j 0 t in
-          rw (ordered m, p, ← f, b)
-
-      pub rows-lengths : n ≤ j → lengths_reason lens (size - next) ≡ judged_reason size (take n specs) lens next
-      rows-lengths k =
-          let p : plain (take n specs) ≡ true = compressed-not (take n specs) (omega (arith, long)) in
-          rw (ordered m, p)
+    pub rows-lengths : None ≡ first_of (first_compressed specs) (length specs) → lengths_reason lens (size - next) ≡ judged_reason size specs lens next
+    rows-lengths f = rw (ordered, compressed-not specs (first-none f))
 
 -- ---- told_table
-module _ {s : List ℕ} {at n : ℕ} {r : Rows} (w : WasRead s at n r) where
-  pub table-unread : (r.number ≡ 0 → ⊥) → unread s r.number r.place (row r.read) ≡ rows_reason s (rows_read n s at) (rows_at n s at)
-  table-unread z = rw (← w.rows, ← w.read, ne_eqb r.number 0 z)
+module _ {s : List ℕ} {at n : ℕ} where
+  pub table-unread : {e : Refusal} {k : ℕ} → WasRead s at n (Err (e, k))
+      → unread s (number_of e.0) e.1 (row k) ≡ rows_reason s (rows_read n s at) (rows_at n s at)
+  table-unread w = rw (← w.rows, ← w.read)
 
-  module _ (z : r.number ≡ 0) where
-    rows_are : tab (take n r.specs) (take n r.lens) r.next ≡ rows_at n s at
-    rows_are = rw (← w.rows, eq-eqb r.number 0 z)
-
+  module _ {r : Rows} (w : WasRead s at n (Ok r)) where
     pub table-rows : judged_reason (length s) (take n r.specs) (take n r.lens) r.next ≡ rows_reason s (rows_read n s at) (rows_at n s at)
-    table-rows = ap (rows_reason s (rows_read n s at)) rows_are
+    table-rows = ap (rows_reason s (rows_read n s at)) w.rows
 
     pub table-next : at ≤ length s → r.next ≤ length s
-    table-next h = (subst (RowsEnd s n at (rows_read n s at)) (sym rows_are) (rows_end s n at)).2 h
+    table-next h = (subst (RowsEnd s n at (rows_read n s at)) (sym w.rows) (rows_end s n at)).2 h
 
 -- ---- table_reason
 module _ (s : List ℕ) where

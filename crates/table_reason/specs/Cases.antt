@@ -1,18 +1,16 @@
 -- What each answer of the code stands for.
-use Rattle.std.specs.Prelude.{◌+◌, ◌*◌, ◌^◌}
+use Rattle.std.specs.Prelude.{ℕ, ◌+◌, ◌*◌, ◌^◌, Some, None}
+use Rattle.std.specs.Prelude as code
 use Rattle.std.proofs.Math.Option.{Option, none, some}
+use Rattle.refusal.specs.Number.{number_of}
 use Rattle.table_reason.specs.TableReason as spec
-use Rattle.table_reason.specs.declared.Row.{Row}
-use Rattle.table_reason.specs.declared.Row.TheVariants as rows
 use Rattle.table_reason.specs.declared.TableFacts.{TableFacts}
 use Rattle.table_reason.specs.declared.TableFacts.TheVariants as facts
 use Rattle.table_reason.specs.declared.TableReason.{TableReason}
-use Rattle.table_reason.specs.declared.TableTold.{TableTold}
-use Rattle.table_reason.specs.declared.TableTold.TheVariants as tells
 
-abbrev pub row_of : Row → spec.Row
-row_of rows.Nowhere = spec.nowhere
-row_of (rows.At i) = spec.row i
+abbrev pub row_of : code.Option ℕ → spec.Row
+row_of None = spec.nowhere
+row_of (Some i) = spec.row i
 
 -- what lengths add up to is given in two numbers
 abbrev pub facts_of : TableFacts → spec.Facts
@@ -23,8 +21,8 @@ facts_of (facts.Compressed a) = spec.compressed a
 facts_of (facts.Lengths high low room) = spec.lengths (high * 2 ^ 64 + low) room
 
 abbrev pub reason_of : TableReason → spec.TableReason
-reason_of r = record { number = r.number; place = r.place; row = row_of r.row; facts = facts_of r.facts }
+reason_of r = record { number = number_of r.refusal.0; place = r.refusal.1; row = row_of r.row; facts = facts_of r.facts }
 
-abbrev pub told_of : TableTold → Option spec.TableReason
-told_of (tells.Because r) = some (reason_of r)
-told_of tells.Faultless = none
+abbrev pub told_of : code.Option TableReason → Option spec.TableReason
+told_of (Some r) = some (reason_of r)
+told_of None = none

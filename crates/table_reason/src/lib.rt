@@ -2,25 +2,20 @@
 #![tactic(auto)]
 
 ghost use Rattle.std.specs.Prelude.{◌≡◌, ◌+◌, ◌*◌, ◌^◌, ◌≤◌, length, take};
+ghost use Rattle.refusal.specs.Number.{number_of};
 ghost use Rattle.raw_column.specs.Table.{sum, rows_at};
 ghost use Rattle.table_reason.specs.TableReason.{because, rows_read, first_fall, first_compressed, unread, lengths_reason, judged_reason, rows_reason, table_reason};
 ghost use Rattle.table_reason.specs.Cases.{row_of, facts_of, told_of};
-ghost use Rattle.table_reason.specs.Rows.{no_rows, WasRead};
+ghost use Rattle.table_reason.specs.Rows.{WasRead, first_of};
 
 use column_specification::ColumnSpec;
-use leb128::{ParsedU32, ParsedU64};
-
-// The row at fault, or that none is named.
-#[derive(Clone, Copy)]
-pub enum Row {
-    Nowhere,
-    At(u64),
-}
+use raw_column::row_at;
+use refusal::{Refusal, Why};
 
 // The facts that make a refusal true: how many bytes of the number at the place are there; for 11 the count; for 12 the specification before and
 // the one that falls; for 13 the specification; for 14 and 15 what the lengths add up to, its high and its low 64 bits, and how many bytes of data
 // there are.
-#[derive(Clone, Copy)]
+#[derive(Clone, Copy, Debug, PartialEq, Eq)]
 pub enum TableFacts {
     Bytes(u64),
     Columns(u64),
@@ -29,229 +24,171 @@ pub enum TableFacts {
     Lengths(u64, u64, u64),
 }
 
-// A table's fault by number and place, the row at fault, and the facts.
-#[derive(Clone, Copy)]
+// A table's fault, the row at fault where one is named, and the facts.
+#[derive(Clone, Copy, Debug, PartialEq, Eq)]
 pub struct TableReason {
-    pub number: u8,
-    pub place: usize,
-    pub row: Row,
+    pub refusal: Refusal,
+    pub row: Option<u64>,
     pub facts: TableFacts,
 }
 
-// The reason of a table's fault; or that it has none.
-#[derive(Clone, Copy)]
-pub enum TableTold {
-    Because(TableReason),
-    Faultless,
-}
-
-// Rows as they were read, and the position behind them; or a refusal. And how many were read.
+// Rows as they were read, and the position behind them.
 #[derive(Clone, Copy)]
 struct Rows {
     specs: [u32; 64],
     lens: [u64; 64],
-    number: u8,
-    place: usize,
     next: usize,
-    read: usize,
 }
 
 // A sum that can pass 2^64.
-#[derive(Clone, Copy)]
+#[derive(Clone, Copy, Debug, PartialEq, Eq)]
 struct Sum {
     high: u64,
     low: u64,
 }
 
-fn no_rows(number: u8, place: usize, read: usize) -> Rows
-    ensures { result ≡ no_rows number place read }
-{
-    Rows {
-        specs: [0u32; 64],
-        lens: [0u64; 64],
-        number: number,
-        place: place,
-        next: 0,
-        read: read,
-    }
-}
-
-fn read_rows(block: &[u8], at: usize, n: usize) -> Rows
+// So many rows from a position on; or the refusal of one of them, and which one.
+fn read_rows(block: &[u8], at: usize, n: usize) -> Result<Rows, (Refusal, usize)>
     requires { n ≤ 64 }
     ensures { WasRead block.now at n result }
 {
     let mut specs = [0u32; 64];
     let mut lens = [0u64; 64];
-    let mut i: usize = 0;
     let mut p = at;
-    while i < n {
-        match leb128::leb128_u32(block, p) {
-            ParsedU32::Refused(number, place) => {
-                return no_rows(number, place, i);
-            }
-            ParsedU32::Number(spec, next) => match leb128::leb128_u64(block, next) {
-                ParsedU64::Refused(number, place) => {
-                    return no_rows(number, place, i);
-                }
-                ParsedU64::Number(len, after) => {
-                    specs[i] = spec;
-                    lens[i] = len;
-                    p = after;
-                    i += 1;
-                }
-            },
-        }
+    for i in 0..n {
+        let row = match row_at(block, p) {
+            Ok(row) => row,
+            Err(refusal) => return Err((refusal, i)),
+        };
+        specs[i] = row.spec;
+        lens[i] = row.len;
+        p = row.next;
     }
-    Rows {
-        specs: specs,
-        lens: lens,
-        number: 0,
-        place: 0,
+    Ok(Rows {
+        specs,
+        lens,
         next: p,
-        read: i,
-    }
+    })
 }
 
-// The first row whose key is below that of the row before it; n where there is none.
-fn first_fall(specs: &[u32], n: usize) -> usize
-    requires { n ≤ length specs.now }
-    ensures { result ≡ first_fall 0 (take n specs.now) }
+// The first row whose key is below that of the row before it, if there is one.
+fn first_fall(specs: &[u32]) -> Option<usize>
+    ensures { result ≡ first_of (first_fall 0 specs.now) (length specs.now) }
 {
     let mut last: u32 = 0;
-    let mut i: usize = 0;
-    while i < n {
-        let k = ColumnSpec(specs[i]).normalize();
+    for (i, spec) in specs.iter().enumerate() {
+        let k = ColumnSpec(*spec).normalize();
         if k < last {
-            return i;
+            return Some(i);
         }
         last = k;
-        i += 1;
     }
-    n
+    None
 }
 
-// The first row with bit 3 set; n where there is none.
-fn first_compressed(specs: &[u32], n: usize) -> usize
-    requires { n ≤ length specs.now }
-    ensures { result ≡ first_compressed (take n specs.now) }
+// The first row with bit 3 set, if there is one.
+fn first_compressed(specs: &[u32]) -> Option<usize>
+    ensures { result ≡ first_of (first_compressed specs.now) (length specs.now) }
 {
-    let mut i: usize = 0;
-    while i < n {
-        if ColumnSpec(specs[i]).deflate() {
-            return i;
-        }
-        i += 1;
-    }
-    n
+    specs.iter().position(|spec| ColumnSpec(*spec).deflate())
 }
 
-fn sum_of(lens: &[u64], n: usize) -> Sum
-    requires { (n ≤ 64) × (n ≤ length lens.now) }
-    ensures { result.high * 2 ^ 64 + result.low ≡ sum (take n lens.now) }
+fn sum_of(lens: &[u64]) -> Sum
+    requires { length lens.now ≤ 64 }
+    ensures { result.high * 2 ^ 64 + result.low ≡ sum lens.now }
 {
     let mut high: u64 = 0;
     let mut low: u64 = 0;
-    let mut i: usize = 0;
-    while i < n {
-        let l = lens[i];
-        let room = 18446744073709551615 - low;
-        if room < l {
+    for l in lens {
+        let sum = low.wrapping_add(*l);
+        if sum < low {
             high += 1;
-            low = l - room - 1;
-        } else {
-            low += l;
         }
-        i += 1;
+        low = sum;
     }
-    Sum {
-        high: high,
-        low: low,
-    }
+    Sum { high, low }
 }
 
-fn told(number: u8, place: usize, row: Row, facts: TableFacts) -> TableTold
-    ensures { told_of result ≡ because number place (row_of row) (facts_of facts) }
+// A fault of the table as a whole, whose place is 0.
+fn told(why: Why, row: Option<u64>, facts: TableFacts) -> Option<TableReason>
+    ensures { told_of result ≡ because (number_of why) 0 (row_of row) (facts_of facts) }
 {
-    TableTold::Because(TableReason {
-        number: number,
-        place: place,
-        row: row,
-        facts: facts,
+    Some(TableReason {
+        refusal: Refusal(why, 0),
+        row,
+        facts,
     })
 }
 
 // Of a number that does not read.
-fn told_unread(block: &[u8], number: u8, place: usize, row: Row) -> TableTold
-    ensures { told_of result ≡ unread block.now number place (row_of row) }
+fn told_unread(block: &[u8], refusal: Refusal, row: Option<u64>) -> Option<TableReason>
+    ensures { told_of result ≡ unread block.now (number_of refusal.0) refusal.1 (row_of row) }
 {
-    let n = reason::number_bytes(block, place);
-    told(number, place, row, TableFacts::Bytes(n))
+    let facts = TableFacts::Bytes(reason::number_bytes(block, refusal.1));
+    Some(TableReason {
+        refusal,
+        row,
+        facts,
+    })
 }
 
 // 14 and 15, of lengths and the bytes of data behind the rows.
-fn told_lengths(lens: &[u64], n: usize, room: u64) -> TableTold
-    requires { (n ≤ 64) × (n ≤ length lens.now) }
-    ensures { told_of result ≡ lengths_reason (take n lens.now) room }
+fn told_lengths(lens: &[u64], room: u64) -> Option<TableReason>
+    requires { length lens.now ≤ 64 }
+    ensures { told_of result ≡ lengths_reason lens.now room }
 {
-    let s = sum_of(lens, n);
+    let s = sum_of(lens);
     let facts = TableFacts::Lengths(s.high, s.low, room);
     if 0 < s.high {
-        return told(14, 0, Row::Nowhere, facts);
+        return told(Why::ColumnsTooLong, None, facts);
     }
     if room < s.low {
-        return told(14, 0, Row::Nowhere, facts);
+        return told(Why::ColumnsTooLong, None, facts);
     }
     if s.low < room {
-        return told(15, 0, Row::Nowhere, facts);
+        return told(Why::ColumnsTooShort, None, facts);
     }
-    TableTold::Faultless
+    None
 }
 
 // 12, 13, 14 and 15, of rows that were read.
-fn told_rows(rows: Rows, n: usize, size: usize) -> TableTold
+fn told_rows(rows: Rows, n: usize, size: usize) -> Option<TableReason>
     requires { (n ≤ 64) × (rows.next ≤ size) }
     ensures { told_of result ≡ judged_reason size (take n rows.specs) (take n rows.lens) rows.next }
 {
-    let specs = rows.specs;
-    let lens = rows.lens;
-    let i = first_fall(&specs, n);
-    if i < n {
+    let specs = &rows.specs[..n];
+    if let Some(i) = first_fall(specs) {
         let before = i - 1;
-        return told(
-            12,
-            0,
-            Row::At(i as u64),
-            TableFacts::Falls(specs[before], specs[i]),
-        );
+        let facts = TableFacts::Falls(specs[before], specs[i]);
+        return told(Why::OutOfOrder, Some(i as u64), facts);
     }
-    let j = first_compressed(&specs, n);
-    if j < n {
-        return told(13, 0, Row::At(j as u64), TableFacts::Compressed(specs[j]));
+    if let Some(j) = first_compressed(specs) {
+        let facts = TableFacts::Compressed(specs[j]);
+        return told(Why::Compressed, Some(j as u64), facts);
     }
-    told_lengths(&lens, n, (size - rows.next) as u64)
+    told_lengths(&rows.lens[..n], (size - rows.next) as u64)
 }
 
 // Of so many rows from a position on.
-fn told_table(block: &[u8], at: usize, n: usize) -> TableTold
+fn told_table(block: &[u8], at: usize, n: usize) -> Option<TableReason>
     requires { (n ≤ 64) × (at ≤ length block.now) }
     ensures { told_of result ≡ rows_reason block.now (rows_read n block.now at) (rows_at n block.now at) }
 {
-    let rows = read_rows(block, at, n);
-    if rows.number != 0 {
-        return told_unread(block, rows.number, rows.place, Row::At(rows.read as u64));
+    match read_rows(block, at, n) {
+        Ok(rows) => told_rows(rows, n, block.len()),
+        Err((refusal, row)) => told_unread(block, refusal, Some(row as u64)),
     }
-    told_rows(rows, n, block.len())
 }
 
-// Why the table of a block was refused.
-pub fn table_reason(block: &[u8]) -> TableTold
+// Why the table of a block was refused; none of a sound one.
+pub fn table_reason(block: &[u8]) -> Option<TableReason>
     ensures { told_of result ≡ table_reason block.now }
 {
     match leb128::leb128_u64(block, 0) {
-        ParsedU64::Refused(number, place) => told_unread(block, number, place, Row::Nowhere),
-        ParsedU64::Number(value, next) => {
+        Err(refusal) => told_unread(block, refusal, None),
+        Ok((value, next)) => {
             if 64 < value {
-                return told(11, 0, Row::Nowhere, TableFacts::Columns(value));
+                return told(Why::TooManyColumns, None, TableFacts::Columns(value));
             }
             told_table(block, next, value as usize)
         }

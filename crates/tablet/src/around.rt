@@ -1,50 +1,32 @@
 // The bytes around a place, in hex, with those of the number that stands there in brackets.
-use crate::parts::plus;
-use crate::pen;
+use crate::parts::between;
 use crate::pen::Pen;
 
 // How many bytes are shown before the number and behind it.
 const NEAR: usize = 8;
 
-fn less(a: usize, b: usize) -> usize {
-    if a < b { 0 } else { a - b }
-}
-
-fn least(a: usize, b: usize) -> usize {
-    if a < b { a } else { b }
-}
-
-// A byte in two digits.
-fn say_byte(p: Pen<'_>, b: u8) -> Pen<'_> {
-    pen::hex(pen::text(p, b" "), b as u64)
-}
-
-// The bytes from a up to e that are there.
-fn say_bytes<'p>(p: Pen<'p>, s: &[u8], a: usize, e: usize) -> Pen<'p> {
-    let mut q = p;
-    let mut i = a;
-    while i < e {
-        if s.len() <= i {
-            return q;
-        }
-        q = say_byte(q, s[i]);
-        i += 1;
+// The bytes from a up to e that are there, in two digits each.
+fn say_bytes(pen: &mut Pen<'_>, s: &[u8], a: usize, e: usize) {
+    for b in between(s, a, e.min(s.len())) {
+        write!(pen, " {b:02x}");
     }
-    q
 }
 
 // A line for a place: where its first byte stands, the bytes before the number, the number's own in brackets, and some behind it.
-pub fn say<'p>(p: Pen<'p>, s: &[u8], place: usize) -> Pen<'p> {
+pub fn say(pen: &mut Pen<'_>, s: &[u8], place: usize) {
     let n = reason::number_bytes(s, place) as usize;
-    let from = less(place, NEAR);
-    let end = plus(place, n);
-    let till = least(plus(end, NEAR), s.len());
-    let q = pen::form(p, b"  the bytes from % on:", from as u64, 0, 0, 0);
-    let before = pen::text(say_bytes(q, s, from, place), b" [");
-    let number = pen::text(say_bytes(before, s, place, end), b" ]");
-    let behind = say_bytes(number, s, end, till);
+    let from = place.saturating_sub(NEAR);
+    let end = place.saturating_add(n);
+    let till = end.saturating_add(NEAR);
+    write!(pen, "  the bytes from {from} on:");
+    say_bytes(pen, s, from, place);
+    write!(pen, " [");
+    say_bytes(pen, s, place, end);
+    write!(pen, " ]");
+    say_bytes(pen, s, end, till);
     if s.len() <= till {
-        return pen::text(behind, b" and no more\n");
+        writeln!(pen, " and no more");
+    } else {
+        writeln!(pen, " ..");
     }
-    pen::text(behind, b" ..\n")
 }

@@ -1,62 +1,50 @@
 // A block whose file ends inside a column: which one, and where. The table itself reads; only its data are short.
-use crate::parts::between;
 use crate::pen::Pen;
 use crate::rows::Piece;
-use crate::{kinds, pen, refusals, rows, walk};
-use encoding::Answer;
+use crate::{kinds, rows, walk};
 
-// The position of the column in which the data end, of n columns.
-fn find(block: &[u8], n: usize) -> usize {
-    let mut i = 0;
-    while i < n {
-        if !rows::is_whole(rows::piece_at(block, i)) {
-            return i;
-        }
-        i += 1;
-    }
-    i
+// The position of the column in which the data end.
+fn position_in(block: &[u8]) -> usize {
+    let n = rows::count(block);
+    (0..n)
+        .find(|i| !rows::piece_at(block, *i).is_whole())
+        .unwrap_or(n)
 }
 
 // The column in which the data end.
-pub fn broken(block: &[u8]) -> Piece {
-    rows::piece_at(block, find(block, rows::count(block)))
+pub fn broken(block: &[u8]) -> Piece<'_> {
+    rows::piece_at(block, position_in(block))
 }
 
 // What is known of a block that ends too early.
-pub fn explain<'p>(p: Pen<'p>, block: &[u8]) -> Pen<'p> {
-    let position = find(block, rows::count(block));
+pub fn explain(pen: &mut Pen<'_>, block: &[u8]) {
+    let position = position_in(block);
     let c = rows::piece_at(block, position);
-    let ends = pen::form(
-        p,
-        b"  the file ends at byte %, inside column % (",
-        block.len() as u64,
-        position as u64,
-        0,
-        0,
+    write!(
+        pen,
+        "  the file ends at byte {}, inside column {position} (",
+        block.len()
     );
-    let part = between(block, c.start, c.end);
-    say_fault(say_had(ends, c), part, position, c.spec)
-}
-
-fn say_had(p: Pen<'_>, c: Piece) -> Pen<'_> {
-    pen::form(
-        kinds::say(p, c.spec, 0),
-        b", id %), which begins at byte %: % of its % bytes are there\n",
+    writeln!(
+        pen,
+        "{}, id {}), which begins at byte {}: {} of its {} bytes are there",
+        kinds::name(c.spec),
         kinds::id(c.spec),
-        c.start as u64,
-        rows::had(c),
-        c.len,
-    )
+        c.start,
+        c.had(),
+        c.len
+    );
+    say_fault(pen, c, position);
 }
 
 // The bytes that are there, read as far as they go.
-fn say_fault<'p>(p: Pen<'p>, part: &[u8], position: usize, spec: u32) -> Pen<'p> {
-    let q = pen::form(p, b"  column %: ", position as u64, 0, 0, 0);
-    match walk::count(part, kinds::of_spec(spec)) {
-        Answer::Done(_) => pen::text(
-            q,
-            b"the bytes end between two runs, where nothing but the table shows the cut\n",
+fn say_fault(pen: &mut Pen<'_>, c: Piece<'_>, position: usize) {
+    write!(pen, "  column {position}: ");
+    match walk::count(c.part, kinds::of_spec(c.spec)) {
+        Ok(_) => writeln!(
+            pen,
+            "the bytes end between two runs, where nothing but the table shows the cut"
         ),
-        Answer::Refused(number, place) => pen::text(refusals::say(q, number, place), b"\n"),
+        Err(refusal) => writeln!(pen, "{refusal}"),
     }
 }

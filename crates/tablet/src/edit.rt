@@ -1,14 +1,13 @@
 // tablet edit FILE COLUMN START END READING.. --to OUT: a range of a column's readings replaced, in a new block.
 ghost use Rattle.std.specs.Prelude.{◌≡◌, ◌+◌, ◌-◌, ◌^◌, min};
 
-use crate::apply::Edited;
 use crate::column::Column;
+use crate::given::Given;
 use crate::kinds::Kind;
-use crate::parts::{after, between};
-use crate::pen::{Desk, Pen};
+use crate::parts::between;
+use crate::pen::{Desk, Pen, Said};
 use crate::range::Range;
-use crate::{apply, column, files, given, help, kinds, parts, pen, range, rooms, walk, words};
-use encoding::Answer;
+use crate::{apply, column, files, given, help, kinds, range, rooms, walk, words};
 use std::fs::File;
 use std::rt::Files;
 
@@ -23,114 +22,67 @@ struct Wanted {
 
 // How many readings a column has; 0 where it does not read, which the edit itself refuses.
 fn count_of(part: &[u8], kind: Kind) -> usize {
-    match walk::count(part, kind) {
-        Answer::Done(n) => n as usize,
-        Answer::Refused(_, _) => 0,
-    }
+    walk::count(part, kind).unwrap_or(0) as usize
 }
 
 // How many readings the edited list has, of so many old and new ones.
 fn edited_len(old: usize, start: usize, end: usize, new: usize) -> usize
     ensures { result ≡ min (2 ^ 64 - 1) (start + new + (old - end)) }
 {
-    let kept = plus(start, new);
-    if old < end {
-        return kept;
-    }
-    plus(kept, old - end)
+    start
+        .saturating_add(new)
+        .saturating_add(old.saturating_sub(end))
 }
 
-fn plus(a: usize, b: usize) -> usize
-    ensures { result ≡ min (2 ^ 64 - 1) (a + b) }
-{
-    if b <= usize::MAX - a {
-        a + b
-    } else {
-        usize::MAX
-    }
-}
-
-// What was written, in words: its length, and how many readings the column has now. A list of absent readings alone is written as
-// nothing, and that is said.
-fn say_done<'p>(p: Pen<'p>, part: &[u8], kind: Kind, meant: usize) -> Pen<'p> {
-    let n = count_of(part, kind);
-    let q = pen::form(p, b" has % readings\n", n as u64, 0, 0, 0);
-    if n == meant {
-        return q;
-    }
-    say_lost(q, meant)
-}
-
-pub fn say_lost(p: Pen<'_>, meant: usize) -> Pen<'_> {
-    pen::form(
-        p,
-        b"  note: no reading of the list is present (absent: %); such a list is written as nothing and reads back as empty\n",
-        meant as u64,
-        0,
-        0,
-        0,
-    )
-}
-
-pub fn say_written(to: &[u8], block: &[u8], position: usize, meant: usize, desk: Desk) -> bool {
-    let p = pen::form(
-        pen::text(pen::on(desk.out), to),
-        b": % bytes, column %",
-        block.len() as u64,
-        position as u64,
-        0,
-        0,
+// A list of absent readings alone is written as nothing, and that is said.
+pub fn say_lost(pen: &mut Pen<'_>, meant: usize) {
+    writeln!(
+        pen,
+        "  note: no reading of the list is present (absent: {meant}); such a list is written as nothing and reads back as empty"
     );
-    let c = column::locate(block, position);
-    let part = between(block, c.start, c.end);
-    pen::finish(say_done(p, part, kinds::of_spec(c.spec), meant), desk)
 }
 
-// Saves what an edit came to.
-fn finish(
-    rt: &impl Files<File = File>,
-    path: &[u8],
-    e: Edited,
-    w: Wanted,
-    out: &[u8],
-    new: usize,
+// What was written: its length, and how many readings the column has now, which was to have so many.
+pub fn say_written(
     to: &[u8],
+    block: &[u8],
+    position: usize,
+    meant: usize,
     desk: Desk,
-) -> bool {
-    let r = w.range;
-    if e.number != 0 {
-        column::say_refused(path, r.position, e.number, e.place, desk);
-        return false;
+) -> Result<(), Said> {
+    let n = column::locate(block, position).map_or(0, |c| count_of(c.part, kinds::of_spec(c.spec)));
+    let mut out = desk.out();
+    out.bytes(to);
+    writeln!(
+        out,
+        ": {} bytes, column {position} has {n} readings",
+        block.len()
+    );
+    if n != meant {
+        say_lost(&mut out, meant);
     }
-    let block = between(out, 0, e.len);
-    if files::save(rt, to, block, w.over, desk) {
-        return say_written(
-            to,
-            block,
-            r.position,
-            edited_len(w.old, r.start, range::end_of(r, w.old), new),
-            desk,
-        );
-    }
-    false
+    out.finish(desk)
 }
 
+// The edit, and what it comes to in a new file.
 fn edit_with(
     rt: &impl Files<File = File>,
     path: &[u8],
     block: &[u8],
     w: Wanted,
-    names: &[u8],
-    new: &[u64],
-    present: &[u8],
+    new: Given<'_>,
     to: &[u8],
     desk: Desk,
-) -> bool {
+) -> Result<(), Said> {
     let mut out = rooms::block();
-    let kind = w.kind;
-    let range = w.range;
-    let e = apply::apply(block, range, kind, names, new, present, &mut out);
-    finish(rt, path, e, w, &out, new.len(), to, desk)
+    let r = w.range;
+    let len = apply::apply(block, r, w.kind, new, &mut out).map_err(|refusal| column::say_refused(
+        path, r.position, refusal, desk,
+    ))?;
+    let edited = between(&out, 0, len);
+    files::save(rt, to, edited, w.over, desk)?;
+    let meant = edited_len(w.old, r.start, r.end_of(w.old), new.values.len());
+    say_written(to, edited, r.position, meant, desk)
 }
 
 // The edit of a column that the block has, by readings as text.
@@ -142,27 +94,20 @@ fn edit_column(
     text: &[u8],
     to: &[u8],
     desk: Desk,
-) -> bool {
+) -> Result<(), Said> {
     let mut names = rooms::names();
-    let mut new = rooms::unsigned();
+    let mut values = rooms::unsigned();
     let mut present = rooms::flags();
-    let kind = w.kind;
-    let n = given::readings(text, kind, &mut names, &mut new, &mut present, desk);
-    if n == given::NONE {
-        return false;
-    }
-    let all = rooms::front(&new, n);
-    let here = between(&present, 0, n);
-    edit_with(rt, path, block, w, &names, all, here, to, desk)
+    let new = given::readings(text, w.kind, &mut names, &mut values, &mut present, desk)?;
+    edit_with(rt, path, block, w, new, to, desk)
 }
 
-fn wanted_of(block: &[u8], c: Column, r: Range, over: bool) -> Wanted {
+fn wanted_of(c: Column<'_>, range: Range, over: bool) -> Wanted {
     let kind = kinds::of_spec(c.spec);
-    let part = between(block, c.start, c.end);
     Wanted {
-        range: r,
+        range,
         kind,
-        old: count_of(part, kind),
+        old: count_of(c.part, kind),
         over,
     }
 }
@@ -174,46 +119,26 @@ fn edit_to(
     option: usize,
     over: bool,
     desk: Desk,
-) -> bool {
-    let mut block = rooms::block();
-    let c = column::open(rt, line, &mut block, desk);
-    if c.number != 0 {
-        return false;
-    }
-    let r = range::of_line(line, c.position, desk);
-    if !range::is_whole(r) {
-        return false;
-    }
+) -> Result<(), Said> {
+    let mut room = rooms::block();
+    let (block, c) = column::open(rt, line, &mut room, desk)?;
+    let range = range::of_line(line, c.position, desk)?;
     let text = between(line, words::start(line, 5), words::start(line, option));
-    let to = words::word(line, after(option));
-    let whole = between(&block, 0, c.size);
-    let w = wanted_of(whole, c, r, over);
-    edit_column(rt, words::word(line, 1), whole, w, text, to, desk)
+    let to = words::word(line, option.saturating_add(1));
+    let w = wanted_of(c, range, over);
+    edit_column(rt, words::word(line, 1), block, w, text, to, desk)
 }
 
-fn wrong(desk: Desk) -> bool {
-    help::wrong(
-        b"edit FILE COLUMN START END READING.. --to OUT [--over]",
-        desk,
-    )
-}
-
-pub fn run(rt: &impl Files<File = File>, line: &[u8], desk: Desk) -> bool {
-    let all = words::count(line);
-    let option = words::option(line, 5);
-    if all <= option {
-        return wrong(desk);
-    }
-    if !parts::same(words::word(line, option), b"--to") {
-        return wrong(desk);
-    }
-    if all - option == 2 {
-        return edit_to(rt, line, option, false, desk);
-    }
-    if all - option == 3 {
-        if parts::same(words::word(line, after(after(option))), b"--over") {
-            return edit_to(rt, line, option, true, desk);
+pub fn run(rt: &impl Files<File = File>, line: &[u8], desk: Desk) -> Result<(), Said> {
+    if let Some(option) = words::option(line, 5) {
+        if matches!(words::word(line, option), b"--to") {
+            if let Some(over) = words::over(line, option.saturating_add(2)) {
+                return edit_to(rt, line, option, over, desk);
+            }
         }
     }
-    wrong(desk)
+    help::wrong(
+        "edit FILE COLUMN START END READING.. --to OUT [--over]",
+        desk,
+    )
 }

@@ -1,16 +1,13 @@
 // Files: read whole, and written completely or not at all.
-use crate::parts::{between, put};
-use crate::pen::{Desk, Pen, Sheet};
-use crate::{pen, words};
+use crate::parts;
+use crate::pen::{Desk, Pen, Said, Sheet};
+use crate::refusals::Refusal;
 use std::fs::{File, OpenOptions};
 use std::io::Read;
 use std::rt::Files;
-use std::{fs, io, str};
+use std::{fmt, fs, io, str};
 
-// The file was not read, and why was said.
-pub const FAILED: usize = usize::MAX;
-
-// The system's numbers of the errors that are told apart.
+// The system's numbers of the errors that are told apart. An `ErrorKind` would take EPERM for EACCES.
 const ENOENT: i32 = 2;
 
 const EACCES: i32 = 13;
@@ -21,166 +18,166 @@ const EISDIR: i32 = 21;
 
 const ENOSPC: i32 = 28;
 
-// In place of such a number: the name is not text, by which alone a file is opened.
-const NO_TEXT: i32 = -1;
-
-// What reading a file came to: so many bytes, too many for the room, or an error of the system.
+// Why a file is not read or written: an error of the system by its number, or 0 where it has none; its name is not text, by which alone a file is opened; or
+// it is larger than the room.
 #[derive(Clone, Copy)]
-enum Got {
-    Bytes(usize),
+enum Failure {
+    System(i32),
+    NoText,
     TooLarge,
-    Failed(i32),
 }
 
-// The system's number of an error, or 0 where it has none.
-fn number_of(error: io::Error) -> i32 {
-    error.raw_os_error().unwrap_or(0)
+impl From<io::Error> for Failure {
+    fn from(error: io::Error) -> Failure {
+        Failure::System(error.raw_os_error().unwrap_or(0))
+    }
+}
+
+impl fmt::Display for Failure {
+    fn fmt<W: fmt::Write>(&self, f: &mut fmt::Formatter<W>) -> fmt::Result {
+        f.write_str(match *self {
+            Failure::System(ENOENT) => "there is no such file or folder",
+            Failure::System(EACCES) => "it may not be opened",
+            Failure::System(EISDIR) => "it is a folder",
+            Failure::System(ENOSPC) => "the disk is full",
+            Failure::System(EEXIST) => {
+                "the unfinished file beside it, of the same name with .part behind it, is in the way; remove it if no other run writes it"
+            }
+            Failure::System(_) => "the system failed to open, read or write it",
+            Failure::NoText => "its name is not UTF-8, and no such file is opened",
+            Failure::TooLarge => "larger than the 524,288 bytes that this tool takes",
+        })
+    }
 }
 
 // The name of a file as text.
-fn name_of(path: &[u8]) -> Result<&str, i32> {
-    match str::from_utf8(path) {
-        Ok(name) => Ok(name),
-        Err(_) => Err(NO_TEXT),
-    }
+fn name_of(path: &[u8]) -> Result<&str, Failure> {
+    str::from_utf8(path).map_err(|_| Failure::NoText)
 }
 
-fn open(rt: &impl Files<File = File>, path: &[u8]) -> Result<File, i32> {
-    fs::open(rt, name_of(path)?).map_err(number_of)
+fn open(rt: &impl Files<File = File>, path: &[u8]) -> Result<File, Failure> {
+    Ok(fs::open(rt, name_of(path)?)?)
 }
 
 // A new file.
-fn create(rt: &impl Files<File = File>, path: &[u8]) -> Result<File, i32> {
-    OpenOptions::new()
+fn create(rt: &impl Files<File = File>, path: &[u8]) -> Result<File, Failure> {
+    let name = name_of(path)?;
+    let file = OpenOptions::new()
         .write(true)
         .create_new(true)
-        .open(rt, name_of(path)?)
-        .map_err(number_of)
+        .open(rt, name)?;
+    Ok(file)
 }
 
-fn rename(rt: &impl Files<File = File>, from: &[u8], to: &[u8]) -> Result<(), i32> {
-    fs::rename(rt, name_of(from)?, name_of(to)?).map_err(number_of)
+fn rename(rt: &impl Files<File = File>, from: &[u8], to: &[u8]) -> Result<(), Failure> {
+    Ok(fs::rename(rt, name_of(from)?, name_of(to)?)?)
 }
 
-fn remove(rt: &impl Files<File = File>, path: &[u8]) -> Result<(), i32> {
-    fs::remove_file(rt, name_of(path)?).map_err(number_of)
+fn remove(rt: &impl Files<File = File>, path: &[u8]) -> Result<(), Failure> {
+    Ok(fs::remove_file(rt, name_of(path)?)?)
 }
 
 // The file has come to its end only where one more read gives nothing.
-fn fill(file: &mut File, room: &mut [u8]) -> Got {
+fn fill<'r>(file: &mut File, room: &'r mut [u8]) -> Result<&'r [u8], Failure> {
     let mut n = 0;
     while n < room.len() {
-        match file.read(&mut room[n..]) {
-            Ok(0) => return Got::Bytes(n),
-            Ok(got) => n += got,
-            Err(e) => return Got::Failed(number_of(e)),
+        let got = file.read(&mut room[n..])?;
+        if got == 0 {
+            return Ok(&room[..n]);
         }
+        n += got;
     }
     let mut more = [0u8; 1];
-    match file.read(&mut more) {
-        Ok(0) => Got::Bytes(n),
-        Ok(_) => Got::TooLarge,
-        Err(e) => Got::Failed(number_of(e)),
+    if file.read(&mut more)? != 0 {
+        return Err(Failure::TooLarge);
     }
+    Ok(room)
 }
 
-fn fetch(rt: &impl Files<File = File>, path: &[u8], room: &mut [u8]) -> Got {
-    match open(rt, path) {
-        Ok(mut file) => fill(&mut file, room),
-        Err(error) => Got::Failed(error),
-    }
-}
-
-// Which of the texts of `say_failed` an error has.
-fn text_of(error: i32) -> usize {
-    match error {
-        ENOENT => 1,
-        EACCES => 2,
-        EISDIR => 3,
-        ENOSPC => 4,
-        EEXIST => 5,
-        NO_TEXT => 6,
-        _ => 0,
-    }
+fn fetch<'r>(
+    rt: &impl Files<File = File>,
+    path: &[u8],
+    room: &'r mut [u8],
+) -> Result<&'r [u8], Failure> {
+    let mut file = open(rt, path)?;
+    fill(&mut file, room)
 }
 
 // The beginning of a message about a file.
 pub fn about(path: &[u8], desk: Desk) -> Pen<'static> {
-    let p = pen::text(pen::on(desk.notes), b"tablet: ");
-    pen::text(pen::text(p, path), b": ")
+    let mut notes = desk.notes();
+    write!(notes, "tablet: ");
+    notes.bytes(path);
+    write!(notes, ": ");
+    notes
 }
 
-fn say_failed(path: &[u8], error: i32, desk: Desk) {
-    let all = b"the system failed to open, read or write it\n\0\
-there is no such file or folder\n\0\
-it may not be opened\n\0\
-it is a folder\n\0\
-the disk is full\n\0\
-the unfinished file beside it, of the same name with .part behind it, is in the way; remove it if no other run writes it\n\0\
-its name is not UTF-8, and no such file is opened\n\0";
-    pen::text(about(path, desk), words::word(all, text_of(error)));
+// A refusal of a whole file.
+pub fn say_refused(path: &[u8], refusal: Refusal, desk: Desk) -> Said {
+    writeln!(about(path, desk), "{refusal}");
+    Said
 }
 
-// Reads a file into the room: how many bytes it has, or FAILED.
-pub fn read(rt: &impl Files<File = File>, path: &[u8], room: &mut [u8], desk: Desk) -> usize {
-    match fetch(rt, path, room) {
-        Got::Bytes(n) => n,
-        Got::TooLarge => {
-            pen::text(
-                about(path, desk),
-                b"larger than the 524,288 bytes that this tool takes\n",
-            );
-            FAILED
-        }
-        Got::Failed(error) => {
-            say_failed(path, error, desk);
-            FAILED
-        }
-    }
+fn say_failed(path: &[u8], failure: Failure, desk: Desk) -> Said {
+    writeln!(about(path, desk), "{failure}");
+    Said
 }
 
-// The name of the file that is written first.
-fn part_name(path: &[u8], name: &mut [u8]) -> usize {
-    let at = put(name, 0, path);
-    put(name, at, b".part")
+// Reads a file into the room, and answers its bytes. What fails is said.
+pub fn read<'r>(
+    rt: &impl Files<File = File>,
+    path: &[u8],
+    room: &'r mut [u8],
+    desk: Desk,
+) -> Result<&'r [u8], Said> {
+    fetch(rt, path, room).map_err(|failure| say_failed(path, failure, desk))
+}
+
+// The name of the file that is written first; empty where it is longer than the room.
+fn part_name<'n>(path: &[u8], name: &'n mut [u8]) -> &'n [u8] {
+    let n = put_part_name(path, name).unwrap_or(0);
+    parts::between(name, 0, n)
+}
+
+fn put_part_name(path: &[u8], name: &mut [u8]) -> Option<usize> {
+    let at = parts::put(name, 0, path)?;
+    parts::put(name, at, b".part")
 }
 
 fn is_there(rt: &impl Files<File = File>, path: &[u8]) -> bool {
-    match open(rt, path) {
-        Ok(_) => true,
-        Err(error) => error != ENOENT && error != NO_TEXT,
-    }
+    !matches!(
+        open(rt, path),
+        Err(Failure::System(ENOENT) | Failure::NoText)
+    )
 }
 
 // May a file of this name be written? One that is there is in the way, unless `over`, and that is said.
-pub fn is_free(rt: &impl Files<File = File>, path: &[u8], over: bool, desk: Desk) -> bool {
-    if over {
-        return true;
+pub fn check_free(
+    rt: &impl Files<File = File>,
+    path: &[u8],
+    over: bool,
+    desk: Desk,
+) -> Result<(), Said> {
+    if over || !is_there(rt, path) {
+        return Ok(());
     }
-    if is_there(rt, path) {
-        pen::text(
-            about(path, desk),
-            b"it is there already, and is left as it is; --over as the last word replaces it\n",
-        );
-        return false;
-    }
-    true
+    writeln!(
+        about(path, desk),
+        "it is there already, and is left as it is; --over as the last word replaces it"
+    );
+    Err(Said)
 }
 
-// Opens the part file of a path, or says why not and answers none.
-pub fn begin(rt: &impl Files<File = File>, path: &[u8], over: bool, desk: Desk) -> Option<File> {
-    if !is_free(rt, path, over, desk) {
-        return None;
-    }
+// Opens the part file of a path, or says why not.
+pub fn begin(
+    rt: &impl Files<File = File>,
+    path: &[u8],
+    over: bool,
+    desk: Desk,
+) -> Result<File, Said> {
+    check_free(rt, path, over, desk)?;
     let mut name = [0u8; 4096];
-    let n = part_name(path, &mut name);
-    match create(rt, between(&name, 0, n)) {
-        Ok(file) => Some(file),
-        Err(error) => {
-            say_failed(path, error, desk);
-            None
-        }
-    }
+    create(rt, part_name(path, &mut name)).map_err(|failure| say_failed(path, failure, desk))
 }
 
 // Closes the part file and gives it its name, or removes it and says why. The error is that of the pen which wrote it.
@@ -190,16 +187,14 @@ pub fn end(
     file: File,
     error: Option<i32>,
     desk: Desk,
-) -> bool {
+) -> Result<(), Said> {
     let mut name = [0u8; 4096];
-    let n = part_name(path, &mut name);
-    let part = between(&name, 0, n);
-    let Err(error) = name_kept(rt, file, error, part, path) else {
-        return true;
+    let part = part_name(path, &mut name);
+    let Err(failure) = name_kept(rt, file, error, part, path) else {
+        return Ok(());
     };
     let _ = remove(rt, part);
-    say_failed(path, error, desk);
-    false
+    Err(say_failed(path, failure, desk))
 }
 
 // The part file under its name, where it is kept.
@@ -209,16 +204,16 @@ fn name_kept(
     error: Option<i32>,
     part: &[u8],
     path: &[u8],
-) -> Result<(), i32> {
-    is_kept(file, error)?;
+) -> Result<(), Failure> {
+    close(file, error)?;
     rename(rt, part, path)
 }
 
-// Closes what was written, and answers whether all of it is on the disk.
-fn is_kept(file: File, error: Option<i32>) -> Result<(), i32> {
-    file.sync_all().map_err(number_of)?;
+// Closes what was written. It is kept where all of it is on the disk.
+fn close(file: File, error: Option<i32>) -> Result<(), Failure> {
+    file.sync_all()?;
     match error {
-        Some(error) => Err(error),
+        Some(error) => Err(Failure::System(error)),
         None => Ok(()),
     }
 }
@@ -230,7 +225,7 @@ pub fn save(
     content: &[u8],
     over: bool,
     desk: Desk,
-) -> bool {
+) -> Result<(), Said> {
     save_both(rt, path, content, b"", over, desk)
 }
 
@@ -242,11 +237,11 @@ pub fn save_both(
     rest: &[u8],
     over: bool,
     desk: Desk,
-) -> bool {
-    let Some(file) = begin(rt, path, over, desk) else {
-        return false;
-    };
-    let p = pen::text(pen::text(pen::on(Sheet::Page(&file)), front), rest);
-    let error = p.error;
+) -> Result<(), Said> {
+    let file = begin(rt, path, over, desk)?;
+    let mut page = Pen::on(Sheet::Page(&file));
+    page.bytes(front);
+    page.bytes(rest);
+    let error = page.error;
     end(rt, path, file, error, desk)
 }

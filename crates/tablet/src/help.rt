@@ -1,10 +1,8 @@
 // What is said to someone who does not know the tool, or used it wrongly.
-use crate::pen;
-use crate::pen::{Desk, Pen};
+use crate::pen::{Desk, Pen, Said};
 
-fn say_looking(p: Pen<'_>) -> Pen<'_> {
-    pen::text(
-        p,
+fn say_looking(pen: &mut Pen<'_>) {
+    pen.bytes(
         b"tablet: looks at blocks of columns, draws them, edits them, makes them and saves what is left of them
 
   tablet show FILE             the table: a row a column, with the number of its readings or where it breaks;
@@ -22,9 +20,8 @@ fn say_looking(p: Pen<'_>) -> Pen<'_> {
     )
 }
 
-fn say_writing(p: Pen<'_>) -> Pen<'_> {
-    pen::text(
-        p,
+fn say_writing(pen: &mut Pen<'_>) {
+    pen.bytes(
         b"  tablet edit FILE COLUMN START END READING.. --to OUT [--over]
                                replaces the readings from START up to, not including, END by those given (none: takes
                                them out), and writes the new block to OUT; the word end for END means to the list's end
@@ -49,9 +46,8 @@ fn say_writing(p: Pen<'_>) -> Pen<'_> {
     )
 }
 
-fn say_rules(p: Pen<'_>) -> Pen<'_> {
-    pen::text(
-        p,
+fn say_rules(pen: &mut Pen<'_>) {
+    pen.bytes(
         b"
 A column's position counts from 0. Types are delta (whole numbers, kept as differences), integer and actor (from 0 on),
 boolean and text. A reading is a number, - where it is absent, or true, false, 1, 0; 80x5 stands for five times 80.
@@ -73,26 +69,37 @@ What goes wrong is said on standard error, and ./tablet then ends with status 1.
     )
 }
 
-pub fn say(p: Pen<'_>) -> Pen<'_> {
-    say_rules(say_writing(say_looking(p)))
+pub fn say(pen: &mut Pen<'_>) {
+    say_looking(pen);
+    say_writing(pen);
+    say_rules(pen);
 }
 
-pub fn run(desk: Desk) -> bool {
-    pen::finish(say(pen::on(desk.out)), desk)
+pub fn run(desk: Desk) -> Result<(), Said> {
+    let mut out = desk.out();
+    say(&mut out);
+    out.finish(desk)
+}
+
+// No command was given.
+pub fn missing(desk: Desk) -> Result<(), Said> {
+    let mut notes = desk.notes();
+    writeln!(notes, "tablet: no command was given\n");
+    say(&mut notes);
+    Err(Said)
 }
 
 // A command that is not used as it is meant to be.
-pub fn wrong(form: &[u8], desk: Desk) -> bool {
-    let p = pen::text(
-        pen::on(desk.notes),
-        b"tablet: this command is used as: tablet ",
-    );
-    pen::text(pen::text(p, form), b"\n");
-    false
+pub fn wrong(form: &str, desk: Desk) -> Result<(), Said> {
+    let mut notes = desk.notes();
+    writeln!(notes, "tablet: this command is used as: tablet {form}");
+    Err(Said)
 }
 
-pub fn unknown(name: &[u8], desk: Desk) -> bool {
-    let p = pen::text(pen::on(desk.notes), b"tablet: there is no command \"");
-    pen::text(pen::text(p, name), b"\"; tablet help lists them\n");
-    false
+pub fn unknown(name: &[u8], desk: Desk) -> Result<(), Said> {
+    let mut notes = desk.notes();
+    write!(notes, "tablet: there is no command \"");
+    notes.bytes(name);
+    writeln!(notes, "\"; tablet help lists them");
+    Err(Said)
 }

@@ -19,28 +19,14 @@ pub fn kept(x: i64) -> u64
 
 // The signed numbers of a list, at the front of signed.
 pub fn mean_all(values: &[u64], signed: &mut [i64]) {
-    if signed.len() < values.len() {
-        return;
-    }
-    let mut i = 0;
-    while i < values.len() {
-        signed[i] = sum_of(values[i]);
-        i += 1;
+    for (z, value) in signed.iter_mut().zip(values) {
+        *z = sum_of(*value);
     }
 }
 
 // The booleans of a list, at the front of flags.
 pub fn narrow_all(values: &[u64], flags: &mut [u8]) {
-    if flags.len() < values.len() {
-        return;
+    for (flag, value) in flags.iter_mut().zip(values) {
+        *flag = u8::from(*value != 0);
     }
-    let mut i = 0;
-    while i < values.len() {
-        flags[i] = narrow(values[i]);
-        i += 1;
-    }
-}
-
-fn narrow(n: u64) -> u8 {
-    if n == 0 { 0 } else { 1 }
 }

@@ -1,184 +1,144 @@
 // Lists of readings as they are given: readings with a comma or a word's end between two, each with a count behind an x or not. Names have no
 // count, and a comma between double quotes parts nothing.
+ghost use Rattle.std.specs.Prelude.{◌<◌, length};
+
 use crate::kinds::Kind;
-use crate::parts::{NO_ROOM, after, between, find, plus};
-use crate::{kinds, names, numbers, parts};
-use decimal::{Decimal, Reading};
+use crate::parts::between;
+use crate::{names, numbers};
+use decimal::{DecimalError, ReadingError};
 
 // What is wrong with a reading.
-pub const NO_NUMBER: u8 = 1;
+#[derive(Clone, Copy)]
+pub enum Fault {
+    NoNumber,
+    OutOfRange,
+    TooMany,
+    NoText,
+    TooLong,
+}
 
-pub const OUT_OF_RANGE: u8 = 2;
+// The text of a reading that cannot be taken, and what is wrong with it.
+#[derive(Clone, Copy)]
+pub struct Wrong<'s> {
+    pub fault: Fault,
+    pub text: &'s [u8],
+}
 
-pub const TOO_MANY: u8 = 3;
-
-pub const NO_TEXT: u8 = 4;
-
-pub const TOO_LONG: u8 = 5;
-
-// A reading so many times; or what is wrong. The fault is 0 where nothing is.
+// A reading as it is kept, none where it is absent, so many times.
 #[derive(Clone, Copy)]
 struct Item {
-    fault: u8,
-    value: u64,
-    here: u8,
+    value: Option<u64>,
     times: usize,
 }
 
-// How many readings there are; or what is wrong with the text from one place up to another.
-#[derive(Clone, Copy)]
-pub struct List {
-    pub fault: u8,
-    pub count: usize,
-    pub at: usize,
-    pub end: usize,
-}
-
-// The end of the reading that begins at `at`.
-fn reading_end(s: &[u8], at: usize) -> usize {
-    let mut i = at;
+// The length of the reading that a text begins with.
+fn reading_len(s: &[u8]) -> usize {
     let mut open = false;
-    while i < s.len() {
-        if s[i] == 0 {
-            return i;
+    for (i, b) in s.iter().enumerate() {
+        match *b {
+            0 => return i,
+            b',' if !open => return i,
+            b'"' => open = !open,
+            _ => {}
         }
-        if s[i] == b',' {
-            if !open {
-                return i;
-            }
-        }
-        if s[i] == b'"' {
-            open = !open;
-        }
-        i += 1;
     }
-    i
+    s.len()
 }
 
-fn item_with(fault: u8, value: u64, here: u8, times: usize) -> Item {
-    Item {
-        fault,
-        value,
-        here,
-        times,
-    }
+// The text of the reading that stands first, and the text behind it and what ends it.
+fn part(s: &[u8]) -> (&[u8], &[u8])
+    ensures { 0 < length s.now → length result.1.now < length s.now }
+{
+    let n = reading_len(s);
+    (
+        between(s, 0, n),
+        s.get(n.saturating_add(1)..).unwrap_or_default(),
+    )
 }
 
-fn item_of(r: Reading, times: usize) -> Item {
-    match r {
-        Reading::Value(value) => item_with(0, value, 1, times),
-        Reading::Absent => item_with(0, 0, 0, times),
-        Reading::NoNumber => item_with(NO_NUMBER, 0, 0, 0),
-        Reading::OutOfRange => item_with(OUT_OF_RANGE, 0, 0, 0),
+impl From<ReadingError> for Fault {
+    fn from(error: ReadingError) -> Fault {
+        match error {
+            ReadingError::NoNumber => Fault::NoNumber,
+            ReadingError::OutOfRange => Fault::OutOfRange,
+        }
     }
 }
 
-// READING or READINGxCOUNT.
-fn read_item(s: &[u8], kind: Kind) -> Item {
-    let x = find(s, 0, b'x');
-    let r = numbers::reading_of(between(s, 0, x), kind);
-    if x == s.len() {
-        return item_of(r, 1);
+// What is wrong with a count.
+impl From<DecimalError> for Fault {
+    fn from(error: DecimalError) -> Fault {
+        match error {
+            DecimalError::NoNumber => Fault::NoNumber,
+            DecimalError::TooLarge => Fault::TooMany,
+        }
     }
-    match decimal::decimal_of(between(s, after(x), s.len())) {
-        Decimal::Value(times) => item_of(r, times as usize),
-        Decimal::NoNumber => item_with(NO_NUMBER, 0, 0, 0),
-        Decimal::TooLarge => item_with(TOO_MANY, 0, 0, 0),
-    }
+}
+
+// READING or READINGxCOUNT. What is wrong with the count is said first.
+fn read_item(s: &[u8], kind: Kind) -> Result<Item, Fault> {
+    let Some(x) = s.iter().position(|b| *b == b'x') else {
+        let value = numbers::reading_of(s, kind)?;
+        return Ok(Item { value, times: 1 });
+    };
+    let times = decimal::decimal_of(between(s, x.saturating_add(1), s.len()))? as usize;
+    let value = numbers::reading_of(between(s, 0, x), kind)?;
+    Ok(Item { value, times })
 }
 
 // A name, put among the names at the index at which it is given: it is not longer than that text.
-fn read_name(s: &[u8], names: &mut [u8], at: usize) -> Item {
-    if parts::same(s, b"-") {
-        return item_with(0, 0, 0, 1);
+fn read_name(s: &[u8], names: &mut [u8], at: usize) -> Result<Item, Fault> {
+    if matches!(s, b"-") {
+        return Ok(Item {
+            value: None,
+            times: 1,
+        });
     }
-    if names.len() < plus(at, s.len()) {
-        return item_with(TOO_LONG, 0, 0, 0);
+    if names.len() < at.saturating_add(s.len()) {
+        return Err(Fault::TooLong);
     }
-    let end = names::put(s, names, at);
-    if end == NO_ROOM {
-        return item_with(NO_NUMBER, 0, 0, 0);
+    let end = names::put(s, names, at).ok_or(Fault::NoNumber)?;
+    if !utf8::is_utf8(between(names, at, end)) {
+        return Err(Fault::NoText);
     }
-    if utf8::is_utf8(between(names, at, end)) {
-        return item_with(0, names::kept(at as u64, end as u64), 1, 1);
-    }
-    item_with(NO_TEXT, 0, 0, 0)
+    Ok(Item {
+        value: Some(names::kept(at as u64, end as u64)),
+        times: 1,
+    })
 }
 
-fn item_at(s: &[u8], at: usize, end: usize, kind: Kind, names: &mut [u8]) -> Item {
-    if kinds::is_text(kind) {
-        return read_name(between(s, at, end), names, at);
-    }
-    read_item(between(s, at, end), kind)
+// Puts one reading into the slots from n on, where they fit; the slot behind them.
+fn repeat(item: Item, values: &mut [u64], present: &mut [u8], n: usize) -> Result<usize, Fault> {
+    let end = n.checked_add(item.times).ok_or(Fault::TooMany)?;
+    let slots = values.get_mut(n..end).ok_or(Fault::TooMany)?;
+    slots.fill(item.value.unwrap_or(0));
+    let flags = present.get_mut(n..end).ok_or(Fault::TooMany)?;
+    flags.fill(u8::from(item.value.is_some()));
+    Ok(end)
 }
 
-// Puts one reading `times` times into the slots from n on, where they fit; the slot behind them, or NO_ROOM.
-fn repeat(
-    value: u64,
-    here: u8,
-    times: usize,
-    values: &mut [u64],
-    present: &mut [u8],
-    n: usize,
-) -> usize {
-    if values.len() != present.len() {
-        return NO_ROOM;
-    }
-    if values.len() < n {
-        return NO_ROOM;
-    }
-    if values.len() - n < times {
-        return NO_ROOM;
-    }
-    let mut i = 0;
-    while i < times {
-        values[n + i] = value;
-        present[n + i] = here;
-        i += 1;
-    }
-    n + i
-}
-
-fn wrong(fault: u8, at: usize, end: usize) -> List {
-    List {
-        fault,
-        count: 0,
-        at,
-        end,
-    }
-}
-
-// Puts the readings of a list into the first slots, and the bytes of names among `names`.
-pub fn fill(
-    s: &[u8],
+// Puts the readings of a list into the first slots, and the bytes of names among `names`: how many readings there are.
+pub fn fill<'s>(
+    s: &'s [u8],
     kind: Kind,
     names: &mut [u8],
     values: &mut [u64],
     present: &mut [u8],
-) -> List {
+) -> Result<usize, Wrong<'s>> {
     let mut n = 0;
-    let mut at = 0;
-    let mut turns = s.len();
-    while turns > 0 {
-        if s.len() <= at {
-            break;
+    let mut rest = s;
+    while !rest.is_empty() {
+        let (text, behind) = part(rest);
+        let item = if kind == Kind::Text {
+            read_name(text, names, s.len().saturating_sub(rest.len()))
+        } else {
+            read_item(text, kind)
+        };
+        match item.and_then(|item| repeat(item, values, present, n)) {
+            Ok(next) => n = next,
+            Err(fault) => return Err(Wrong { fault, text }),
         }
-        let end = reading_end(s, at);
-        let i = item_at(s, at, end, kind, names);
-        if i.fault != 0 {
-            return wrong(i.fault, at, end);
-        }
-        n = repeat(i.value, i.here, i.times, values, present, n);
-        if n == NO_ROOM {
-            return wrong(TOO_MANY, at, end);
-        }
-        at = after(end);
-        turns -= 1;
+        rest = behind;
     }
-    List {
-        fault: 0,
-        count: n,
-        at: 0,
-        end: 0,
-    }
+    Ok(n)
 }

@@ -47,21 +47,17 @@ mod walk;
 mod why;
 mod words;
 
-use pen::{Desk, Sheet};
+use pen::{Desk, Said, Sheet};
 use std::fs::File;
 use std::rt::Files;
 
 // A script is no command of a script.
-fn run(rt: &impl Files<File = File>, line: &[u8], desk: Desk) -> bool {
-    let name = words::word(line, 0);
-    if name.len() == 0 {
-        help::say(pen::text(pen::on(desk.notes), b"tablet: no command was given\n\n"));
-        return false;
+fn run(rt: &impl Files<File = File>, line: &[u8], desk: Desk) -> Result<(), Said> {
+    match words::word(line, 0) {
+        [] => help::missing(desk),
+        b"script" => script::run(rt, line, desk),
+        _ => commands::run(rt, line, desk),
     }
-    if parts::same(name, b"script") {
-        return script::run(rt, line, desk);
-    }
-    commands::run(rt, line, desk)
 }
 
 fn main(rt: HostRuntime) {
@@ -69,14 +65,14 @@ fn main(rt: HostRuntime) {
         out: Sheet::Out(rt.stdout()),
         notes: Sheet::Notes(rt.stderr()),
     };
-    let mut line = rooms::block();
-    let n = words::arguments(&rt, &mut line);
-    if n == parts::NO_ROOM {
-        pen::text(
-            pen::on(desk.notes),
-            b"tablet: the words of the command are longer than the 524,288 bytes that this tool takes; tablet script takes long lists\n",
+    let mut room = rooms::block();
+    if let Some(line) = words::arguments(&rt, &mut room) {
+        let _ = run(&rt, line, desk);
+    } else {
+        let mut notes = desk.notes();
+        writeln!(
+            notes,
+            "tablet: the words of the command are longer than the 524,288 bytes that this tool takes; tablet script takes long lists"
         );
-        return;
     }
-    run(&rt, parts::between(&line, 0, n), desk);
 }

@@ -1,11 +1,11 @@
 // Names, the readings of a text column: how they are given and listed, and as what they are kept.
 //
 // A name that begins and ends with a double quote stands between the two. In every name a double quote is written twice, and \xNN stands for
-// the byte with these hex digits. A name is kept as start * 2^32 + length, its place in the bytes where it stands.
-use crate::parts::{NO_ROOM, after, between, byte_at, plus};
+// the byte with these hex digits. A name is kept as start * 2^32 + length, its place in the bytes where it stands: one number, so that the readings of
+// every kind take one list of fixed size (no heap).
+ghost use Rattle.std.specs.Prelude.{◌<◌, IfSome, length};
+
 use crate::pen::Pen;
-use crate::{pen, refusals};
-use encoding::Survey;
 
 const HIGH: u64 = 4294967296;
 
@@ -22,198 +22,112 @@ pub fn kept(start: u64, end: u64) -> u64 {
 
 // The starts and lengths of names, at the front of two lists.
 pub fn part_all(values: &[u64], starts: &mut [u64], lens: &mut [u64]) {
-    if starts.len() < values.len() {
-        return;
-    }
-    if lens.len() < values.len() {
-        return;
-    }
-    let mut i = 0;
-    while i < values.len() {
-        starts[i] = values[i] / HIGH;
-        lens[i] = values[i] % HIGH;
-        i += 1;
+    for ((start, len), value) in starts.iter_mut().zip(lens.iter_mut()).zip(values) {
+        *start = *value / HIGH;
+        *len = *value % HIGH;
     }
 }
 
-// How many names stand before a column's first fault, and that fault.
-pub fn survey(part: &[u8]) -> Survey {
-    let found = text_decoder::survey(part);
-    Survey {
-        readings: found.readings,
-        number: refusals::of_names(part, found.number, found.place),
-        place: found.place,
+// The value of a hex digit.
+fn digit(b: u8) -> Option<u8>
+    ensures { IfSome result (λ d. d < 16) }
+{
+    match b {
+        b'0'..=b'9' => Some(b - b'0'),
+        b'a'..=b'f' => Some(b - b'a' + 10),
+        b'A'..=b'F' => Some(b - b'A' + 10),
+        _ => None,
     }
 }
 
-// A byte of a name, and how many bytes of the text stand for it; none where they stand for nothing.
-#[derive(Clone, Copy)]
-struct Meant {
-    byte: u8,
-    len: usize,
-}
-
-fn nothing() -> Meant {
-    Meant { byte: 0, len: 0 }
-}
-
-// A hex digit, or 16 where it is none.
-fn digit(b: u8) -> u8 {
-    if 48 <= b && b <= 57 {
-        return b - 48;
+// The byte that a text stands for first, and the text behind what stands for it.
+fn meant(s: &[u8]) -> Option<(u8, &[u8])>
+    ensures { IfSome result (λ r. length r.1.now < length s.now) }
+{
+    match s {
+        [b'"', b'"', rest @ ..] => Some((b'"', rest)),
+        [b'\\', b'x', high, low, rest @ ..] => Some((digit(*high)? * 16 + digit(*low)?, rest)),
+        [] | [b'"' | b'\\', ..] => None,
+        [b, rest @ ..] => Some((*b, rest)),
     }
-    if 97 <= b && b <= 102 {
-        return b - 87;
-    }
-    if 65 <= b && b <= 70 {
-        return b - 55;
-    }
-    16
-}
-
-fn of_digits(high: u8, low: u8) -> Meant {
-    if 15 < high {
-        return nothing();
-    }
-    if 15 < low {
-        return nothing();
-    }
-    Meant {
-        byte: high * 16 + low,
-        len: 4,
-    }
-}
-
-fn meant_at(s: &[u8], i: usize) -> Meant {
-    let b = byte_at(s, i);
-    let j = after(i);
-    if b == b'"' {
-        if byte_at(s, j) == b'"' {
-            return Meant { byte: b, len: 2 };
-        }
-        return nothing();
-    }
-    if b == b'\\' {
-        if byte_at(s, j) == b'x' {
-            let k = after(j);
-            return of_digits(digit(byte_at(s, k)), digit(byte_at(s, after(k))));
-        }
-        return nothing();
-    }
-    Meant { byte: b, len: 1 }
 }
 
 // What stands between the quotes, where there are quotes.
 fn bare(s: &[u8]) -> &[u8] {
-    if s.len() < 2 {
-        return s;
+    match s {
+        [b'"', inner @ .., b'"'] => inner,
+        _ => s,
     }
-    let last = s.len() - 1;
-    if byte_at(s, 0) == b'"' && byte_at(s, last) == b'"' {
-        return between(s, 1, last);
-    }
-    s
 }
 
-// Puts the bytes that a text stands for into out, and answers the place behind them, or NO_ROOM where it stands for none.
-fn put_bare(s: &[u8], out: &mut [u8], at: usize) -> usize {
+// Puts the bytes that a text stands for into out, and answers the place behind them, or none where it stands for none or there is no room.
+fn put_bare(s: &[u8], out: &mut [u8], at: usize) -> Option<usize> {
+    let mut rest = s;
     let mut n = at;
-    let mut i = 0;
-    let mut turns = s.len();
-    while turns > 0 {
-        if s.len() <= i {
-            return n;
-        }
-        if out.len() <= n {
-            return NO_ROOM;
-        }
-        let m = meant_at(s, i);
-        if m.len == 0 {
-            return NO_ROOM;
-        }
-        out[n] = m.byte;
-        n += 1;
-        i = plus(i, m.len);
-        turns -= 1;
+    while !rest.is_empty() {
+        let (byte, behind) = meant(rest)?;
+        *out.get_mut(n)? = byte;
+        n = n.saturating_add(1);
+        rest = behind;
     }
-    n
+    Some(n)
 }
 
 // The same for a name as it is given. The empty name stands in quotes.
-pub fn put(s: &[u8], out: &mut [u8], at: usize) -> usize {
-    if s.len() == 0 {
-        return NO_ROOM;
+pub fn put(s: &[u8], out: &mut [u8], at: usize) -> Option<usize> {
+    if s.is_empty() {
+        return None;
     }
     put_bare(bare(s), out, at)
 }
 
+fn byte_at(s: &[u8], i: usize) -> u8 {
+    s.get(i).copied().unwrap_or(0)
+}
+
 // Is it a byte that a terminal may take for a command? The characters 0x80 to 0x9f are such too, each 0xc2 and a byte.
 fn is_control(s: &[u8], i: usize) -> bool {
-    let b = byte_at(s, i);
-    if b < 32 || b == 127 {
-        return true;
+    match byte_at(s, i) {
+        0..=31 | 127 => true,
+        194 => byte_at(s, i.saturating_add(1)) < 160,
+        128..=159 => byte_at(s, i.saturating_sub(1)) == 194,
+        _ => false,
     }
-    if b == 194 {
-        return byte_at(s, after(i)) < 160;
-    }
-    if 128 <= b && b < 160 {
-        return byte_at(s, pen::short_of(1, i)) == 194;
-    }
-    false
 }
 
 // Does a byte stand for itself wherever a name is given?
 fn is_plain(s: &[u8], i: usize) -> bool {
     match byte_at(s, i) {
-        32 | 34 | 44 | 92 => false,
+        b' ' | b'"' | b',' | b'\\' => false,
         _ => !is_control(s, i),
     }
 }
 
 // Can a name be given as it stands? A word that begins with a dash may be an option, or an absent name.
 fn is_bare(s: &[u8]) -> bool {
-    if s.len() == 0 {
-        return false;
+    match s {
+        [] | [b'-', ..] => false,
+        _ => (0..s.len()).all(|i| is_plain(s, i)),
     }
-    if s[0] == b'-' {
-        return false;
-    }
-    let mut i = 0;
-    while i < s.len() {
-        if !is_plain(s, i) {
-            return false;
-        }
-        i += 1;
-    }
-    true
 }
 
 // A byte of a name in quotes.
-fn say_byte<'p>(p: Pen<'p>, s: &[u8], i: usize) -> Pen<'p> {
-    let b = byte_at(s, i);
-    if b == b'"' {
-        return pen::text(p, b"\"\"");
+fn say_byte(pen: &mut Pen<'_>, s: &[u8], i: usize) {
+    match byte_at(s, i) {
+        b'"' => pen.bytes(b"\"\""),
+        b if b == b'\\' || is_control(s, i) => write!(pen, "\\x{b:02x}"),
+        b => pen.bytes(&[b]),
     }
-    if b == b'\\' || is_control(s, i) {
-        return pen::hex(pen::text(p, b"\\x"), b as u64);
-    }
-    pen::text(p, &[b])
-}
-
-fn say_quoted<'p>(p: Pen<'p>, s: &[u8]) -> Pen<'p> {
-    let mut q = pen::text(p, b"\"");
-    let mut i = 0;
-    while i < s.len() {
-        q = say_byte(q, s, i);
-        i += 1;
-    }
-    pen::text(q, b"\"")
 }
 
 // A name as it can be given.
-pub fn say<'p>(p: Pen<'p>, s: &[u8]) -> Pen<'p> {
+pub fn say(pen: &mut Pen<'_>, s: &[u8]) {
     if is_bare(s) {
-        return pen::text(p, s);
+        return pen.bytes(s);
     }
-    say_quoted(p, s)
+    pen.bytes(b"\"");
+    for i in 0..s.len() {
+        say_byte(pen, s, i);
+    }
+    pen.bytes(b"\"");
 }

@@ -1,69 +1,61 @@
 // Readings as text, by their kind; names have a file of their own. A signed reading z is kept as z + 2^63.
 use crate::kinds::Kind;
-use crate::pen::Pen;
-use crate::{kinds, parts, pen, words};
-use decimal::{HALF, Reading};
+use decimal::ReadingError;
+use delta_decoder::sums::sum_of;
+use std::fmt;
 
-fn yes_no(s: &[u8]) -> Reading {
-    let i = words::index(b"false\0true\00\01\0", s);
-    if 3 < i {
-        return Reading::NoNumber;
-    }
-    Reading::Value((i % 2) as u64)
-}
-
-// The reading that a text stands for in a column of a kind.
-pub fn reading_of(s: &[u8], kind: Kind) -> Reading {
-    if kinds::is_yes_no(kind) {
-        return yes_no(s);
-    }
-    if parts::same(s, b"-") {
-        return Reading::Absent;
-    }
-    if kinds::is_signed(kind) {
-        return decimal::signed_of(s);
-    }
-    decimal::unsigned_of(s)
-}
-
-fn say_yes_no(p: Pen<'_>, value: u64) -> Pen<'_> {
-    if value == 0 {
-        return pen::text(p, b"false");
-    }
-    pen::text(p, b"true")
-}
-
-fn say_signed(p: Pen<'_>, value: u64) -> Pen<'_> {
-    if value < HALF {
-        return pen::number(pen::text(p, b"-"), HALF - value);
-    }
-    pen::number(p, value - HALF)
-}
-
-// A reading that is kept, as text.
-pub fn say(p: Pen<'_>, kind: Kind, value: u64) -> Pen<'_> {
-    match kind {
-        Kind::Signed => say_signed(p, value),
-        Kind::Unsigned => pen::number(p, value),
-        Kind::YesNo => say_yes_no(p, value),
-        Kind::Text => p,
-        Kind::Unserved => p,
+fn yes_no(s: &[u8]) -> Result<u64, ReadingError> {
+    match s {
+        b"false" | b"0" => Ok(0),
+        b"true" | b"1" => Ok(1),
+        _ => Err(ReadingError::NoNumber),
     }
 }
 
-// How many places the text of a reading takes.
-pub fn width(kind: Kind, value: u64) -> usize {
-    match kind {
-        Kind::Signed => {
-            if value < HALF {
-                parts::after(pen::digits(HALF - value))
-            } else {
-                pen::digits(value - HALF)
-            }
+// The reading that a text stands for in a column of a kind; none where it is absent.
+pub fn reading_of(s: &[u8], kind: Kind) -> Result<Option<u64>, ReadingError> {
+    match (kind, s) {
+        (Kind::YesNo, _) => yes_no(s).map(Some),
+        (_, b"-") => Ok(None),
+        (Kind::Signed, _) => decimal::signed_of(s).map(Some),
+        _ => decimal::unsigned_of(s).map(Some),
+    }
+}
+
+// A reading that is kept. As text it takes a width, as numbers do.
+#[derive(Clone, Copy)]
+pub struct Kept {
+    pub kind: Kind,
+    pub value: u64,
+}
+
+impl fmt::Display for Kept {
+    fn fmt<W: fmt::Write>(&self, f: &mut fmt::Formatter<W>) -> fmt::Result {
+        match self.kind {
+            Kind::Signed => fmt::Display::fmt(&sum_of(self.value), f),
+            Kind::Unsigned => fmt::Display::fmt(&self.value, f),
+            Kind::YesNo => fmt::Display::fmt(&(self.value != 0), f),
+            Kind::Text | Kind::Unserved => Ok(()),
         }
-        Kind::Unsigned => pen::digits(value),
-        Kind::YesNo => { if value == 0 { 5 } else { 4 } }
-        Kind::Text => 0,
-        Kind::Unserved => 0,
+    }
+}
+
+// How many decimal digits a number has.
+pub fn digits(n: u64) -> usize {
+    n.checked_ilog10().unwrap_or(0) as usize + 1
+}
+
+impl Kept {
+    // How many places its text takes.
+    pub fn width(self) -> usize {
+        match self.kind {
+            Kind::Signed => {
+                let z = sum_of(self.value);
+                digits(z.unsigned_abs()).saturating_add(usize::from(z < 0))
+            }
+            Kind::Unsigned => digits(self.value),
+            Kind::YesNo => if self.value == 0 { 5 } else { 4 },
+            Kind::Text | Kind::Unserved => 0,
+        }
     }
 }

@@ -1,6 +1,6 @@
 // A range of readings, as a command names it by the words 3 and 4: START END. END may be `end`, for all readings from START on.
-use crate::pen::Desk;
-use crate::{column, parts, words};
+use crate::pen::{Desk, Said};
+use crate::{column, words};
 use splice::End;
 
 // The column and the range of its readings.
@@ -11,40 +11,33 @@ pub struct Range {
     pub end: End,
 }
 
-pub fn of_line(line: &[u8], position: usize, desk: Desk) -> Range {
-    let start = column::place(words::word(line, 3), b"START", desk);
-    if parts::same(words::word(line, 4), b"end") {
-        return Range {
-            position,
-            start,
-            end: End::OfList,
-        };
+fn end(word: &[u8], desk: Desk) -> Result<End, Said> {
+    match word {
+        b"end" => Ok(End::OfList),
+        _ => Ok(End::At(column::place(word, "END", desk)?)),
     }
-    Range {
+}
+
+// Of both words it is said where they are no places.
+pub fn of_line(line: &[u8], position: usize, desk: Desk) -> Result<Range, Said> {
+    let start = column::place(words::word(line, 3), "START", desk);
+    let end = end(words::word(line, 4), desk);
+    Ok(Range {
         position,
-        start,
-        end: End::At(column::place(words::word(line, 4), b"END", desk)),
-    }
+        start: start?,
+        end: end?,
+    })
 }
 
-// Where a range ends in a list of so many readings.
-pub fn end_of(r: Range, old: usize) -> usize {
-    let end = r.end;
-    splice::end_in(end, old)
-}
-
-// Are START and END places? Where not, that was said.
-pub fn is_whole(r: Range) -> bool {
-    if r.start == column::MISSING {
-        return false;
+impl Range {
+    // Where it ends in a list of so many readings.
+    pub fn end_of(self, old: usize) -> usize {
+        splice::end_in(self.end, old)
     }
-    end_of(r, 0) != column::MISSING
-}
 
-// Does a list of so many readings have the range?
-pub fn is_in(start: usize, end: usize, n: usize) -> bool {
-    if end < start {
-        return false;
+    // Does a list of so many readings have it?
+    pub fn is_in(self, n: usize) -> bool {
+        let end = self.end_of(n);
+        self.start <= end && end <= n
     }
-    end <= n
 }

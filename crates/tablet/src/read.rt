@@ -1,184 +1,137 @@
 // tablet read FILE COLUMN [START END]: the readings, one a line, of all the column or of a range.
+use crate::column::Column;
 use crate::kinds::Kind;
-use crate::parts::{between, byte_at, plus};
-use crate::pen::{Desk, Pen};
+use crate::numbers::Kept;
+use crate::parts::between;
+use crate::pen::{Desk, Pen, Said};
 use crate::range::Range;
-use crate::walk::Walked;
-use crate::{column, help, kinds, names, numbers, pen, range, rooms, walk, words};
-use encoding::Answer;
+use crate::refusals::Refusal;
+use crate::walk::Walk;
+use crate::{column, help, kinds, names, range, rooms, walk, words};
+use refusal::Why;
 use splice::End;
 use std::fs::File;
 use std::rt::Files;
 
-fn say_line(p: Pen<'_>, kind: Kind, value: u64, here: u8) -> Pen<'_> {
-    if here == 0 {
-        return pen::text(p, b"-\n");
+fn say_line(pen: &mut Pen<'_>, kind: Kind, reading: Option<u64>) {
+    match reading {
+        Some(value) => writeln!(pen, "{}", Kept { kind, value }),
+        None => writeln!(pen, "-"),
     }
-    pen::text(numbers::say(p, kind, value), b"\n")
 }
 
-// What was said, and the refusal that the walk met, where it met one.
-#[derive(Clone, Copy)]
-struct Said<'p> {
-    pen: Pen<'p>,
-    number: u8,
-    place: usize,
-}
-
-// The readings from a up to e.
-fn say_between<'p>(p: Pen<'p>, part: &[u8], kind: Kind, a: usize, e: usize) -> Said<'p> {
-    let mut q = p;
-    let mut w = walk::begin(part, kind);
-    let mut i = 0;
-    while i < e {
-        match walk::step(part, w) {
-            Walked::Reading(next, value, here) => {
-                if a <= i {
-                    q = say_line(q, kind, value, here);
-                }
-                w = next;
-            }
-            Walked::Over(number, place) => {
-                return Said {
-                    pen: q,
-                    number,
-                    place,
-                };
-            }
+// The readings from a up to e, or up to the refusal that the walk meets.
+fn say_between(
+    pen: &mut Pen<'_>,
+    part: &[u8],
+    kind: Kind,
+    a: usize,
+    e: usize,
+) -> Result<(), Refusal> {
+    let mut walk = Walk::begin(part, kind);
+    for i in 0..e {
+        let Some(reading) = walk.next().transpose()? else {
+            return Ok(());
+        };
+        if a <= i {
+            say_line(pen, kind, reading);
         }
-        i += 1;
     }
-    Said {
-        pen: q,
-        number: 0,
-        place: 0,
-    }
+    Ok(())
 }
 
 // The name of so many bytes from `start` on.
-fn say_name<'p>(p: Pen<'p>, part: &[u8], start: u64, len: u64, here: u8) -> Pen<'p> {
-    if here == 0 {
-        return pen::text(p, b"-\n");
-    }
-    let end = plus(start as usize, len as usize);
-    pen::text(names::say(p, between(part, start as usize, end)), b"\n")
+fn say_name(pen: &mut Pen<'_>, part: &[u8], start: u64, len: u64) {
+    let end = start.saturating_add(len);
+    names::say(pen, between(part, start as usize, end as usize));
+    writeln!(pen);
 }
 
-fn say_names<'p>(
-    p: Pen<'p>,
-    part: &[u8],
-    starts: &[u64],
-    lens: &[u64],
-    present: &[u8],
-    a: usize,
-    e: usize,
-) -> Pen<'p> {
-    let mut q = p;
-    let mut i = a;
-    while i < e {
-        q = say_name(
-            q,
-            part,
-            rooms::at(starts, i),
-            rooms::at(lens, i),
-            byte_at(present, i),
-        );
-        i += 1;
+fn say_names(pen: &mut Pen<'_>, part: &[u8], starts: &[u64], lens: &[u64], present: &[u8]) {
+    for ((start, len), here) in starts.iter().zip(lens).zip(present) {
+        if *here == 0 {
+            writeln!(pen, "-");
+        } else {
+            say_name(pen, part, *start, *len);
+        }
     }
-    q
 }
 
 // Names are decoded into slots, of which there are as many as for an edit.
-fn read_names(path: &[u8], part: &[u8], r: Range, e: usize, desk: Desk) -> bool {
+fn read_names(path: &[u8], part: &[u8], r: Range, e: usize, desk: Desk) -> Result<(), Said> {
     let mut starts = rooms::unsigned();
     let mut lens = rooms::unsigned();
     let mut present = rooms::flags();
     match text_decoder::decode(part, &mut starts, &mut lens, &mut present) {
-        Answer::Done(_) => {
-            let p = pen::on(desk.out);
-            let q = say_names(p, part, &starts, &lens, &present, r.start, e);
-            pen::finish(q, desk)
+        Ok(_) => {
+            let mut out = desk.out();
+            say_names(
+                &mut out,
+                part,
+                between(&starts, r.start, e),
+                between(&lens, r.start, e),
+                between(&present, r.start, e),
+            );
+            out.finish(desk)
         }
-        Answer::Refused(number, place) => {
-            column::say_refused(path, r.position, number, place, desk);
-            false
-        }
+        Err(refusal) => Err(column::say_refused(path, r.position, refusal.into(), desk)),
     }
 }
 
 // A range that the column has.
-fn read_between(path: &[u8], part: &[u8], kind: Kind, r: Range, e: usize, desk: Desk) -> bool {
-    if kinds::is_text(kind) {
+fn read_between(
+    path: &[u8],
+    part: &[u8],
+    kind: Kind,
+    r: Range,
+    e: usize,
+    desk: Desk,
+) -> Result<(), Said> {
+    if kind == Kind::Text {
         return read_names(path, part, r, e, desk);
     }
-    let s = say_between(pen::on(desk.out), part, kind, r.start, e);
-    let said = pen::finish(s.pen, desk);
-    if s.number == 0 {
-        return said;
-    }
-    column::say_refused(path, r.position, s.number, s.place, desk);
-    false
-}
-
-// A range of a column of n readings: first whether there is one, and whether it is walked.
-fn read_range(path: &[u8], part: &[u8], kind: Kind, r: Range, n: u64, desk: Desk) -> bool {
-    let e = range::end_of(r, n as usize);
-    if !range::is_in(r.start, e, n as usize) {
-        column::say_refused(path, r.position, 18, 0, desk);
-        return false;
-    }
-    if walk::LONGEST < e as u64 {
-        column::say_long(path, r.position, n, desk);
-        return false;
-    }
-    read_between(path, part, kind, r, e, desk)
-}
-
-// A column that the table has: nothing is said of its readings before it is known to read whole.
-fn read_part(path: &[u8], part: &[u8], kind: Kind, r: Range, desk: Desk) -> bool {
-    match walk::count(part, kind) {
-        Answer::Done(n) => read_range(path, part, kind, r, n, desk),
-        Answer::Refused(number, place) => {
-            column::say_refused(path, r.position, number, place, desk);
-            false
-        }
+    let mut out = desk.out();
+    let walked = say_between(&mut out, part, kind, r.start, e);
+    let written = out.finish(desk);
+    match walked {
+        Ok(()) => written,
+        Err(refusal) => Err(column::say_refused(path, r.position, refusal, desk)),
     }
 }
 
-// All of it, where no range is named.
-fn range_of(line: &[u8], all: usize, position: usize, desk: Desk) -> Range {
-    if all == 5 {
-        return range::of_line(line, position, desk);
-    }
-    Range {
-        position,
-        start: 0,
-        end: End::OfList,
-    }
-}
-
-fn read(rt: &impl Files<File = File>, line: &[u8], all: usize, desk: Desk) -> bool {
-    let mut block = rooms::block();
-    let c = column::open(rt, line, &mut block, desk);
-    if c.number != 0 {
-        return false;
-    }
-    let r = range_of(line, all, c.position, desk);
-    if !range::is_whole(r) {
-        return false;
-    }
-    let part = between(&block, c.start, c.end);
+// Nothing is said of a column's readings before it is known to read whole, to have the range, and to be walked so far.
+fn read_range(path: &[u8], c: Column<'_>, r: Range, desk: Desk) -> Result<(), Said> {
     let kind = kinds::of_spec(c.spec);
-    read_part(words::word(line, 1), part, kind, r, desk)
+    let n = walk::count(c.part, kind).map_err(|refusal| column::say_refused(
+        path, r.position, refusal, desk,
+    ))?;
+    if !r.is_in(n as usize) {
+        let refusal = Refusal::new(Why::BadRange, 0);
+        return Err(column::say_refused(path, r.position, refusal, desk));
+    }
+    let e = r.end_of(n as usize);
+    if walk::LONGEST < e as u64 {
+        return Err(column::say_long(path, r.position, n, desk));
+    }
+    read_between(path, c.part, kind, r, e, desk)
 }
 
-pub fn run(rt: &impl Files<File = File>, line: &[u8], desk: Desk) -> bool {
-    let all = words::count(line);
-    if all == 3 {
-        return read(rt, line, all, desk);
+pub fn run(rt: &impl Files<File = File>, line: &[u8], desk: Desk) -> Result<(), Said> {
+    let n = words::count(line);
+    if n != 3 && n != 5 {
+        return help::wrong("read FILE COLUMN [START END]", desk);
     }
-    if all == 5 {
-        return read(rt, line, all, desk);
-    }
-    help::wrong(b"read FILE COLUMN [START END]", desk)
+    let mut room = rooms::block();
+    let (_, c) = column::open(rt, line, &mut room, desk)?;
+    // All of it, where no range is named.
+    let r = if n == 5 {
+        range::of_line(line, c.position, desk)?
+    } else {
+        Range {
+            position: c.position,
+            start: 0,
+            end: End::OfList,
+        }
+    };
+    read_range(words::word(line, 1), c, r, desk)
 }

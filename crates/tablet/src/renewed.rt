@@ -1,9 +1,11 @@
 // One column in our form, written anew by the library's salvage of its kind, which keeps all of a sound one; or its bytes as they are, where it has that form or
 // cannot have it.
-use crate::parts::NO_ROOM;
-use crate::{forms, kinds, parts, saved, walk};
-use encoding::Survey;
-use salvage::Salvaged;
+use crate::column::Column;
+use crate::kinds::Kind;
+use crate::refusals::Refusal;
+use crate::walk::Surveyed;
+use crate::{forms, kinds, saved, walk};
+use refusal::Why;
 
 #[derive(Clone, Copy)]
 pub enum Change {
@@ -16,72 +18,56 @@ pub enum Change {
     // It has more readings than there are slots.
     Long,
     // It does not read.
-    Broken,
+    Broken(Refusal),
     // Its type is not read here.
     Unread,
 }
 
-// What became of a column; how many readings it has before its fault; that fault; and how many bytes were written, NO_ROOM where there was no room for them.
+// What became of a column; how many readings it has before its fault; and how many bytes were written, none where there was no room for them.
 #[derive(Clone, Copy)]
 pub struct Renewed {
     pub change: Change,
     pub readings: u64,
-    pub number: u8,
-    pub place: usize,
-    pub len: usize,
-}
-
-fn outcome(change: Change, found: Survey, len: usize) -> Renewed {
-    Renewed {
-        change,
-        readings: found.readings,
-        number: found.number,
-        place: found.place,
-        len,
-    }
-}
-
-// The bytes as they are, in the data from `at` on.
-fn keep(change: Change, found: Survey, part: &[u8], data: &mut [u8], at: usize) -> Renewed {
-    if parts::put(data, at, part) == NO_ROOM {
-        return outcome(change, found, NO_ROOM);
-    }
-    outcome(change, found, part.len())
+    pub len: Option<usize>,
 }
 
 // Refused with 10 for want of room in the data, with 9 for want of slots.
-fn refused(number: u8, found: Survey, part: &[u8], data: &mut [u8], at: usize) -> Renewed {
-    if number == 10 {
-        return outcome(Change::Renewed, found, NO_ROOM);
+fn write_anew(c: Column<'_>, data: &mut [u8], at: usize) -> (Change, Option<usize>) {
+    let Some(room) = data.get_mut(at..) else {
+        return (Change::Renewed, None);
+    };
+    match saved::renew(c.spec, c.part, room) {
+        Ok(saved) => (Change::Renewed, Some(saved.written)),
+        Err(refusal) if refusal.0 == Why::OutputTooShort => (Change::Renewed, None),
+        Err(_) => (Change::Long, saved::keep(c.part, data, at)),
     }
-    keep(Change::Long, found, part, data, at)
 }
 
-fn write_anew(spec: u32, found: Survey, part: &[u8], data: &mut [u8], at: usize) -> Renewed {
-    if data.len() < at {
-        return outcome(Change::Renewed, found, NO_ROOM);
+// Why a column's bytes are kept as they are, where they are.
+fn reason_to_keep(c: Column<'_>, kind: Kind, fault: Option<Refusal>) -> Option<Change> {
+    if kind == Kind::Unserved {
+        return Some(Change::Unread);
     }
-    match saved::renew(spec, part, &mut data[at..]) {
-        Salvaged::Saved(_, written, _, _) => outcome(Change::Renewed, found, written),
-        Salvaged::Refused(number, _) => refused(number, found, part, data, at),
+    if let Some(fault) = fault {
+        return Some(Change::Broken(fault));
     }
+    if !forms::is_other(c.part, c.spec) {
+        return Some(Change::Ours);
+    }
+    forms::is_absent(c.part, kind).then_some(Change::Absent)
 }
 
 // A column in the data from `at` on.
-pub fn renew(spec: u32, part: &[u8], data: &mut [u8], at: usize) -> Renewed {
-    let kind = kinds::of_spec(spec);
-    let found = walk::survey(part, kind);
-    if !kinds::is_served(kind) {
-        return keep(Change::Unread, found, part, data, at);
+pub fn renew(c: Column<'_>, data: &mut [u8], at: usize) -> Renewed {
+    let kind = kinds::of_spec(c.spec);
+    let Surveyed { readings, fault } = walk::survey(c.part, kind);
+    let (change, len) = match reason_to_keep(c, kind, fault) {
+        Some(change) => (change, saved::keep(c.part, data, at)),
+        None => write_anew(c, data, at),
+    };
+    Renewed {
+        change,
+        readings,
+        len,
     }
-    if found.number != 0 {
-        return keep(Change::Broken, found, part, data, at);
-    }
-    if !forms::is_other(part, spec) {
-        return keep(Change::Ours, found, part, data, at);
-    }
-    if forms::is_absent(part, kind) {
-        return keep(Change::Absent, found, part, data, at);
-    }
-    write_anew(spec, found, part, data, at)
 }

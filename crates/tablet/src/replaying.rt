@@ -2,131 +2,88 @@
 use crate::column::Column;
 use crate::kinds::Kind;
 use crate::parts::between;
-use crate::pen::{Desk, Pen};
-use crate::{column, edit, files, help, kept, kinds, numbers, parts, pen, refusals, rooms, words};
-use pen_log::{LogEntry, Replayed};
+use crate::pen::{Desk, Pen, Said};
+use crate::refusals::Refusal;
+use crate::{column, edit, files, help, kinds, parts, rooms, words};
+use pen_log::LogEntry;
+use refusal::Why;
 use std::fs::File;
 use std::rt::Files;
 
-// What was said so far, and where in the log the next entry begins.
+// What is replayed: the file's block and column, how many entries of the log at most, and whether a file that is there may be replaced.
 #[derive(Clone, Copy)]
-struct Told<'p> {
-    pen: Pen<'p>,
-    at: usize,
-}
-
-// What is replayed: the file's column, how many entries of the log at most, and whether a file that is there may be replaced.
-#[derive(Clone, Copy)]
-struct Wanted {
-    column: Column,
-    most: usize,
+struct Wanted<'b> {
+    block: &'b [u8],
+    column: Column<'b>,
+    most: Option<usize>,
     over: bool,
 }
 
-fn say_depth(p: Pen<'_>, x: i64) -> Pen<'_> {
-    pen::text(numbers::say(p, Kind::Signed, kept::kept(x)), b"\n")
-}
-
-// What an entry does; of one that cannot be read nothing is said, as the replay refuses it.
-fn say_entry(p: Pen<'_>, n: usize, e: LogEntry) -> Pen<'_> {
+// What an entry does.
+fn say_entry(pen: &mut Pen<'_>, n: usize, e: LogEntry) {
     match e {
-        LogEntry::Insert(i, x, _) => say_depth(
-            pen::form(p, b"entry %: inserts at % ", n as u64, i as u64, 0, 0),
-            x,
-        ),
-        LogEntry::InsertAbsent(i, _) => pen::form(
-            p,
-            b"entry %: inserts at % an absent reading\n",
-            n as u64,
-            i as u64,
-            0,
-            0,
-        ),
-        LogEntry::Remove(i, _) => pen::form(
-            p,
-            b"entry %: removes reading %\n",
-            n as u64,
-            i as u64,
-            0,
-            0,
-        ),
-        LogEntry::Change(i, x, _) => say_depth(
-            pen::form(
-                p,
-                b"entry %: changes reading % to ",
-                n as u64,
-                i as u64,
-                0,
-                0,
-            ),
-            x,
-        ),
-        LogEntry::Refused(_, _) => p,
+        LogEntry::Insert(i, x, _) => writeln!(pen, "entry {n}: inserts at {i} {x}"),
+        LogEntry::InsertAbsent(i, _) => {
+            writeln!(pen, "entry {n}: inserts at {i} an absent reading")
+        }
+        LogEntry::Remove(i, _) => writeln!(pen, "entry {n}: removes reading {i}"),
+        LogEntry::Change(i, x, _) => writeln!(pen, "entry {n}: changes reading {i} to {x}"),
     }
 }
 
-// Where the log goes on behind an entry; behind one that cannot be read there is nothing to tell.
-fn behind(log: &[u8], e: LogEntry) -> usize {
+// Where the log goes on behind an entry.
+fn behind(e: LogEntry) -> usize {
     match e {
         LogEntry::Insert(_, _, next) => next,
         LogEntry::InsertAbsent(_, next) => next,
         LogEntry::Remove(_, next) => next,
         LogEntry::Change(_, _, next) => next,
-        LogEntry::Refused(_, _) => log.len(),
     }
 }
 
-// The first entries in words, so many at most. An entry has a byte at least, so there are no more of them than bytes.
-fn tell<'p>(p: Pen<'p>, log: &[u8], most: usize) -> Told<'p> {
-    let mut q = p;
+// The first entries in words, so many at most, and the part of the log that they take. An entry has a byte at least, so there are no more of them than bytes.
+// Of one that cannot be read, and of what stands behind it, nothing is said: the replay refuses it.
+fn tell<'l>(pen: &mut Pen<'_>, log: &'l [u8], most: Option<usize>) -> &'l [u8] {
     let mut at = 0;
-    let mut i = 0;
-    while i < log.len() {
-        if most <= i || log.len() <= at {
-            return Told { pen: q, at };
+    for i in 0..most.unwrap_or(log.len()).min(log.len()) {
+        if log.len() <= at {
+            break;
         }
-        q = say_entry(q, i, pen_log::entry_at(log, at));
-        at = behind(log, pen_log::entry_at(log, at));
-        i += 1;
+        let Ok(entry) = pen_log::entry_at(log, at) else {
+            return log;
+        };
+        say_entry(pen, i, entry);
+        at = behind(entry);
     }
-    Told { pen: q, at }
+    between(log, 0, at)
 }
 
 // The block with the new column at its place.
 fn save(
     rt: &impl Files<File = File>,
-    block: &[u8],
-    w: Wanted,
+    w: Wanted<'_>,
     new: &[u8],
     readings: u64,
     to: &[u8],
     desk: Desk,
-) -> bool {
+) -> Result<(), Said> {
     let mut out = rooms::block();
-    let c = w.column;
-    let f = block_frame::put_frame(block, c.position, new.len(), &mut out);
-    if f.number != 0 {
-        pen::text(
-            refusals::say(files::about(to, desk), f.number, f.place),
-            b"\n",
-        );
-        return false;
-    }
+    let position = w.column.position;
+    let f = block_frame::put_frame(w.block, position, new.len(), &mut out).map_err(
+        |refusal| files::say_refused(to, refusal.into(), desk),
+    )?;
     parts::put(&mut out, f.at, new);
     let whole = between(&out, 0, f.len);
-    if files::save(rt, to, whole, w.over, desk) {
-        return edit::say_written(to, whole, c.position, readings as usize, desk);
-    }
-    false
+    files::save(rt, to, whole, w.over, desk)?;
+    edit::say_written(to, whole, position, readings as usize, desk)
 }
 
 // 23 is the log's, the others are the column's.
-fn say_refused(line: &[u8], position: usize, number: u8, place: usize, desk: Desk) {
-    if number == 23 {
-        let p = files::about(words::word(line, 3), desk);
-        pen::text(refusals::say(p, number, place), b"\n");
+fn say_refused(line: &[u8], position: usize, refusal: Refusal, desk: Desk) -> Said {
+    if refusal.why == Why::BadEntry {
+        files::say_refused(words::word(line, 3), refusal, desk)
     } else {
-        column::say_refused(words::word(line, 1), position, number, place, desk);
+        column::say_refused(words::word(line, 1), position, refusal, desk)
     }
 }
 
@@ -134,117 +91,92 @@ fn say_refused(line: &[u8], position: usize, number: u8, place: usize, desk: Des
 fn follow(
     rt: &impl Files<File = File>,
     line: &[u8],
-    block: &[u8],
     log: &[u8],
-    w: Wanted,
+    w: Wanted<'_>,
     desk: Desk,
-) -> bool {
+) -> Result<(), Said> {
     let mut values = rooms::signed();
     let mut present = rooms::flags();
     let mut new = rooms::block();
-    let c = w.column;
-    let part = between(block, c.start, c.end);
-    match pen_log::replay(part, log, &mut values, &mut present, &mut new) {
-        Replayed::Written(readings, len) => save(
-            rt,
-            block,
-            w,
-            between(&new, 0, len),
-            readings,
-            words::word(line, 5),
-            desk,
-        ),
-        Replayed::Refused(number, place) => {
-            say_refused(line, c.position, number, place, desk);
-            false
+    match pen_log::replay(w.column.part, log, &mut values, &mut present, &mut new) {
+        Ok((readings, len)) => {
+            let new = between(&new, 0, len);
+            save(rt, w, new, readings, words::word(line, 5), desk)
         }
+        Err(refusal) => Err(say_refused(line, w.column.position, refusal.into(), desk)),
     }
 }
 
 fn replay_log(
     rt: &impl Files<File = File>,
     line: &[u8],
-    block: &[u8],
-    w: Wanted,
+    w: Wanted<'_>,
     desk: Desk,
-) -> bool {
+) -> Result<(), Said> {
     let mut room = rooms::block();
-    let n = files::read(rt, words::word(line, 3), &mut room, desk);
-    if n == files::FAILED {
-        return false;
-    }
-    let log = between(&room, 0, n);
-    let t = tell(pen::on(desk.out), log, w.most);
-    if !pen::finish(t.pen, desk) {
-        return false;
-    }
-    follow(rt, line, block, between(log, 0, t.at), w, desk)
+    let log = files::read(rt, words::word(line, 3), &mut room, desk)?;
+    let mut out = desk.out();
+    let told = tell(&mut out, log, w.most);
+    out.finish(desk)?;
+    follow(rt, line, told, w, desk)
 }
 
-fn replay(rt: &impl Files<File = File>, line: &[u8], most: usize, over: bool, desk: Desk) -> bool {
-    let mut block = rooms::block();
-    let c = column::open(rt, line, &mut block, desk);
-    if c.number != 0 {
-        return false;
-    }
-    if !kinds::is_signed(kinds::of_spec(c.spec)) {
-        pen::form(
+fn replay(
+    rt: &impl Files<File = File>,
+    line: &[u8],
+    most: Option<usize>,
+    over: bool,
+    desk: Desk,
+) -> Result<(), Said> {
+    let mut room = rooms::block();
+    let (block, column) = column::open(rt, line, &mut room, desk)?;
+    if kinds::of_spec(column.spec) != Kind::Signed {
+        writeln!(
             files::about(words::word(line, 1), desk),
-            b"column %: a log goes over a delta column alone (refusal 17)\n",
-            c.position as u64,
-            0,
-            0,
-            0,
+            "column {}: a log goes over a delta column alone (refusal 17)",
+            column.position
         );
-        return false;
+        return Err(Said);
     }
-    if !files::is_free(rt, words::word(line, 5), over, desk) {
-        return false;
-    }
+    files::check_free(rt, words::word(line, 5), over, desk)?;
     let w = Wanted {
-        column: c,
+        block,
+        column,
         most,
         over,
     };
-    replay_log(rt, line, between(&block, 0, c.size), w, desk)
+    replay_log(rt, line, w, desk)
 }
 
-fn wrong(desk: Desk) -> bool {
+// Behind --at stands how many entries are replayed.
+fn replay_at(
+    rt: &impl Files<File = File>,
+    line: &[u8],
+    over: bool,
+    desk: Desk,
+) -> Result<(), Said> {
+    if !matches!(words::word(line, 6), b"--at") {
+        return wrong(desk);
+    }
+    let most = column::place(words::word(line, 7), "a number of entries", desk)?;
+    replay(rt, line, Some(most), over, desk)
+}
+
+fn wrong(desk: Desk) -> Result<(), Said> {
     help::wrong(
-        b"replay FILE COLUMN LOG --to OUT [--at ENTRIES] [--over]",
+        "replay FILE COLUMN LOG --to OUT [--at ENTRIES] [--over]",
         desk,
     )
 }
 
-// Behind --at stands how many entries are replayed.
-fn replay_at(rt: &impl Files<File = File>, line: &[u8], over: bool, desk: Desk) -> bool {
-    if !parts::same(words::word(line, 6), b"--at") {
-        return wrong(desk);
-    }
-    let most = column::place(words::word(line, 7), b"a number of entries", desk);
-    if most == column::MISSING {
-        return false;
-    }
-    replay(rt, line, most, over, desk)
-}
-
 // What stands behind --to OUT: nothing, --over, --at ENTRIES, or both.
-pub fn run(rt: &impl Files<File = File>, line: &[u8], desk: Desk) -> bool {
-    let all = words::count(line);
-    if !parts::same(words::word(line, 4), b"--to") {
+pub fn run(rt: &impl Files<File = File>, line: &[u8], desk: Desk) -> Result<(), Said> {
+    if !matches!(words::word(line, 4), b"--to") {
         return wrong(desk);
     }
-    if all == 6 {
-        return replay(rt, line, usize::MAX, false, desk);
+    match (words::over(line, 6), words::over(line, 8)) {
+        (Some(over), _) => replay(rt, line, None, over, desk),
+        (_, Some(over)) => replay_at(rt, line, over, desk),
+        _ => wrong(desk),
     }
-    if all == 8 {
-        return replay_at(rt, line, false, desk);
-    }
-    if all == 7 && parts::same(words::word(line, 6), b"--over") {
-        return replay(rt, line, usize::MAX, true, desk);
-    }
-    if all == 9 && parts::same(words::word(line, 8), b"--over") {
-        return replay_at(rt, line, true, desk);
-    }
-    wrong(desk)
 }

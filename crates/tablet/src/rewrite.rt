@@ -1,150 +1,101 @@
 // tablet rewrite FILE --to OUT: the block with every sound column in our form.
-use crate::parts::{NO_ROOM, between, plus};
-use crate::pen::{Desk, Pen};
+use crate::column::Column;
+use crate::forms::Bytes;
+use crate::parts::between;
+use crate::pen::{Desk, Pen, Said};
 use crate::renewed::{Change, Renewed};
-use crate::{column, files, forms, help, kinds, make, parts, pen, refusals, renewed, rooms, words};
+use crate::{column, files, help, kinds, make, renewed, rooms, words};
 use std::fs::File;
 use std::rt::Files;
 
-// What was said and written so far: how many bytes of the new table and of the new data, and how many columns do not read.
+// What was written so far: how many bytes of the new table and of the new data, none where there was no room, and how many columns do not read.
 #[derive(Clone, Copy)]
-struct Sofar<'p> {
-    pen: Pen<'p>,
-    table: usize,
-    data: usize,
+struct Sofar {
+    table: Option<usize>,
+    data: Option<usize>,
     bad: usize,
 }
 
 // How many bytes there were, and are now.
-fn say_saved(p: Pen<'_>, before: usize, now: usize) -> Pen<'_> {
+fn say_saved(pen: &mut Pen<'_>, before: usize, now: usize) {
     if now < before {
-        return pen::text(forms::say_bytes(p, pen::short_of(now, before)), b" saved\n");
+        writeln!(pen, "{} saved", Bytes(before - now));
+    } else if before < now {
+        writeln!(pen, "{} more than before", Bytes(now - before));
+    } else {
+        writeln!(pen, "as long as before");
     }
-    if before < now {
-        return pen::text(
-            forms::say_bytes(p, pen::short_of(before, now)),
-            b" more than before\n",
-        );
-    }
-    pen::text(p, b"as long as before\n")
 }
 
-fn say_long(p: Pen<'_>, readings: u64) -> Pen<'_> {
-    pen::form(
-        p,
-        b"left as it stands: % readings, more than the 32,768 that this tool has room for (refusal 9)\n",
-        readings,
-        0,
-        0,
-        0,
-    )
-}
-
-fn say_broken(p: Pen<'_>, number: u8, place: usize) -> Pen<'_> {
-    let q = pen::text(p, b"left as it stands, and it does not read: ");
-    pen::text(refusals::say(q, number, place), b"\n")
-}
-
-// The column at a position, which had so many bytes.
-fn say(p: Pen<'_>, position: usize, spec: u32, had: usize, r: Renewed) -> Pen<'_> {
-    let named = kinds::say(
-        pen::form(p, b"column %, ", position as u64, 0, 0, 0),
-        spec,
-        0,
-    );
-    let q = pen::form(named, b", id %: ", kinds::id(spec), 0, 0, 0);
-    let change = r.change;
-    match change {
-        Change::Ours => pen::text(q, b"in our form\n"),
-        Change::Renewed => say_saved(pen::text(q, b"rewritten: "), had, r.len),
-        Change::Absent => pen::form(
-            q,
-            b"left as it stands: absent readings alone (%), for which our form has no bytes\n",
-            r.readings,
-            0,
-            0,
-            0,
+// A column, and what became of it. One for which there was no room counts as longer than any.
+fn say(pen: &mut Pen<'_>, c: Column<'_>, r: Renewed) {
+    let name = kinds::name(c.spec);
+    let id = kinds::id(c.spec);
+    let readings = r.readings;
+    write!(pen, "column {}, {name}, id {id}: ", c.position);
+    match r.change {
+        Change::Ours => writeln!(pen, "in our form"),
+        Change::Renewed => {
+            write!(pen, "rewritten: ");
+            say_saved(pen, c.part.len(), r.len.unwrap_or(usize::MAX));
+        }
+        Change::Absent => writeln!(
+            pen,
+            "left as it stands: absent readings alone ({readings}), for which our form has no bytes"
         ),
-        Change::Long => say_long(q, r.readings),
-        Change::Broken => say_broken(q, r.number, r.place),
-        Change::Unread => pen::text(
-            q,
-            b"left as it stands: columns of this type are not read here\n",
+        Change::Long => writeln!(
+            pen,
+            "left as it stands: {readings} readings, more than the 32,768 that this tool has room for (refusal 9)"
+        ),
+        Change::Broken(fault) => writeln!(pen, "left as it stands, and it does not read: {fault}"),
+        Change::Unread => writeln!(
+            pen,
+            "left as it stands: columns of this type are not read here"
         ),
     }
 }
 
-fn broken(change: Change) -> usize {
-    match change {
-        Change::Ours => 0,
-        Change::Renewed => 0,
-        Change::Absent => 0,
-        Change::Long => 0,
-        Change::Broken => 1,
-        Change::Unread => 0,
-    }
-}
-
-// One column more: its bytes, its row, and what is said of it.
-fn renew_column<'p>(
-    block: &[u8],
-    position: usize,
+// One column more, its bytes in the data from `at` on: its row, and what is said of it.
+fn renew_column(
+    pen: &mut Pen<'_>,
+    c: Column<'_>,
     table: &mut [u8],
     data: &mut [u8],
-    s: Sofar<'p>,
-) -> Sofar<'p> {
-    let c = column::locate(block, position);
-    let part = between(block, c.start, c.end);
-    let got = renewed::renew(c.spec, part, data, s.data);
-    let row = make::put(table, s.table, c.spec as u64);
-    let next = make::put(table, row, got.len as u64);
-    let change = got.change;
-    let p = s.pen;
+    at: usize,
+    s: Sofar,
+) -> Sofar {
+    let r = renewed::renew(c, data, at);
+    say(pen, c, r);
+    let len = r.len.unwrap_or(usize::MAX);
+    let bad = usize::from(matches!(r.change, Change::Broken(_)));
     Sofar {
-        pen: say(p, position, c.spec, part.len(), got),
-        table: next,
-        data: plus(s.data, got.len),
-        bad: plus(s.bad, broken(change)),
+        table: s
+            .table
+            .and_then(|at| make::put_row(table, at, c.spec, len as u64)),
+        data: r.len.map(|len| at.saturating_add(len)),
+        bad: s.bad.saturating_add(bad),
     }
 }
 
 // All n columns, or those up to one for which there is no room.
-fn renew_columns<'p>(
+fn renew_columns(
+    pen: &mut Pen<'_>,
     block: &[u8],
     n: usize,
     table: &mut [u8],
     data: &mut [u8],
-    begun: Sofar<'p>,
-) -> Sofar<'p> {
-    let mut s = begun;
-    let mut i = 0;
-    while i < n {
-        if s.data == NO_ROOM {
-            return s;
+) -> Sofar {
+    let mut s = Sofar {
+        table: make::put_number(table, 0, n as u64),
+        data: Some(0),
+        bad: 0,
+    };
+    for position in 0..n {
+        if let (Some(at), Ok(c)) = (s.data, column::locate(block, position)) {
+            s = renew_column(pen, c, table, data, at, s);
         }
-        s = renew_column(block, i, table, data, s);
-        i += 1;
     }
     s
-}
-
-// The last words: the new file and what it saved, and as a note that columns do not read.
-fn say_done(path: &[u8], to: &[u8], had: usize, s: Sofar<'_>, n: usize, desk: Desk) -> bool {
-    let size = plus(s.table, s.data);
-    let p = pen::form(
-        pen::text(s.pen, to),
-        b": % bytes, columns: %, ",
-        size as u64,
-        n as u64,
-        0,
-        0,
-    );
-    let written = pen::finish(say_saved(p, had, size), desk);
-    if s.bad == 0 {
-        return written;
-    }
-    column::say_unread(path, s.bad, desk);
-    false
 }
 
 fn rewrite_block(
@@ -155,76 +106,44 @@ fn rewrite_block(
     to: &[u8],
     over: bool,
     desk: Desk,
-) -> bool {
+) -> Result<(), Said> {
     let mut table = [0u8; 1024];
     let mut data = rooms::block();
-    let begun = Sofar {
-        pen: pen::on(desk.out),
-        table: make::put(&mut table, 0, n as u64),
-        data: 0,
-        bad: 0,
-    };
-    let s = renew_columns(block, n, &mut table, &mut data, begun);
-    if rooms::LARGEST < plus(s.table, s.data) {
-        pen::text(refusals::say(files::about(to, desk), 10, 0), b"\n");
-        return false;
+    let mut out = desk.out();
+    let s = renew_columns(&mut out, block, n, &mut table, &mut data);
+    let size = rooms::within(s.table, s.data).map_err(|refusal| files::say_refused(
+        to, refusal, desk,
+    ))?;
+    let front = between(&table, 0, s.table.unwrap_or(0));
+    let rest = between(&data, 0, s.data.unwrap_or(0));
+    files::save_both(rt, to, front, rest, over, desk)?;
+    // The last words: the new file and what it saved, and as a note that columns do not read.
+    out.bytes(to);
+    write!(out, ": {size} bytes, columns: {n}, ");
+    say_saved(&mut out, block.len(), size);
+    let written = out.finish(desk);
+    if s.bad == 0 {
+        return written;
     }
-    let front = between(&table, 0, s.table);
-    if files::save_both(rt, to, front, between(&data, 0, s.data), over, desk) {
-        return say_done(path, to, block.len(), s, n, desk);
-    }
-    false
-}
-
-fn rewrite(
-    rt: &impl Files<File = File>,
-    path: &[u8],
-    block: &[u8],
-    to: &[u8],
-    over: bool,
-    desk: Desk,
-) -> bool {
-    let o = raw_column::read_table(block);
-    if o.number != 0 {
-        column::say_table_refused(path, block, o.number, o.place, desk);
-        return false;
-    }
-    let t = o.table;
-    rewrite_block(rt, path, block, t.rows, to, over, desk)
+    Err(column::say_unread(path, s.bad, desk))
 }
 
 // FILE --to OUT.
-fn rewrite_to(rt: &impl Files<File = File>, line: &[u8], over: bool, desk: Desk) -> bool {
-    let mut block = rooms::block();
+fn rewrite(rt: &impl Files<File = File>, line: &[u8], over: bool, desk: Desk) -> Result<(), Said> {
+    let mut room = rooms::block();
     let path = words::word(line, 1);
-    let n = files::read(rt, path, &mut block, desk);
-    if n == files::FAILED {
-        return false;
-    }
     let to = words::word(line, 3);
-    if !files::is_free(rt, to, over, desk) {
-        return false;
-    }
-    rewrite(rt, path, between(&block, 0, n), to, over, desk)
+    let block = files::read(rt, path, &mut room, desk)?;
+    files::check_free(rt, to, over, desk)?;
+    let table = column::table(block).map_err(|refusal| column::say_table_refused(
+        path, block, refusal, desk,
+    ))?;
+    rewrite_block(rt, path, block, table.rows, to, over, desk)
 }
 
-fn wrong(desk: Desk) -> bool {
-    help::wrong(b"rewrite FILE --to OUT [--over]", desk)
-}
-
-pub fn run(rt: &impl Files<File = File>, line: &[u8], desk: Desk) -> bool {
-    let all = words::count(line);
-    if !parts::same(words::word(line, 2), b"--to") {
-        return wrong(desk);
+pub fn run(rt: &impl Files<File = File>, line: &[u8], desk: Desk) -> Result<(), Said> {
+    match (words::word(line, 2), words::over(line, 4)) {
+        (b"--to", Some(over)) => rewrite(rt, line, over, desk),
+        _ => help::wrong("rewrite FILE --to OUT [--over]", desk),
     }
-    if all == 4 {
-        return rewrite_to(rt, line, false, desk);
-    }
-    if all != 5 {
-        return wrong(desk);
-    }
-    if parts::same(words::word(line, 4), b"--over") {
-        return rewrite_to(rt, line, true, desk);
-    }
-    wrong(desk)
 }

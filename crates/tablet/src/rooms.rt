@@ -1,9 +1,12 @@
 // Room for blocks and scripts, of at most 524,288 bytes, for the readings of an edit, of which a column has at most 32,768, and for the names
-// of a list, of at most 131,072 bytes.
+// of a list, of at most 131,072 bytes. They are arrays of a fixed size, since the tool has no heap.
 ghost use Rattle.std.specs.Prelude.{◌≡◌, length};
 
+use crate::refusals::Refusal;
+use refusal::Why;
+
 // How many bytes a block has at most.
-pub const LARGEST: usize = 524288;
+const LARGEST: usize = 524288;
 
 pub fn block() -> [u8; 524288]
     ensures { 524288 ≡ length result }
@@ -35,22 +38,12 @@ pub fn flags() -> [u8; 32768]
     [0; 32768]
 }
 
-// The first n of a list, or none where it has fewer.
-pub fn front(s: &[u64], n: usize) -> &[u64] {
-    if s.len() < n {
-        return &s[..0];
+// How many bytes a block of a table and data has, none where there was no room for them; or that there is no room for it, which is refusal 10.
+pub fn within(table: Option<usize>, data: Option<usize>) -> Result<usize, Refusal> {
+    match (table, data) {
+        (Some(table), Some(data)) if table.saturating_add(data) <= LARGEST => {
+            Ok(table.saturating_add(data))
+        }
+        _ => Err(Refusal::new(Why::OutputTooShort, 0)),
     }
-    &s[0..n]
-}
-
-// The number at an index, or 0 where there is none.
-pub fn at(s: &[u64], i: usize) -> u64 {
-    if i < s.len() { s[i] } else { 0 }
-}
-
-pub fn front_signed(s: &[i64], n: usize) -> &[i64] {
-    if s.len() < n {
-        return &s[..0];
-    }
-    &s[0..n]
 }

@@ -1,8 +1,6 @@
 // The rows of a table whose numbers read, and what is there of each column. Lengths that add up to more than the data, or to less, are refused with 14 or
 // 15; the rows are there all the same.
-use crate::parts::plus;
-use crate::pen;
-use leb128::{ParsedU32, ParsedU64};
+use crate::parts::between;
 
 // A row of a table, and the position behind it.
 #[derive(Clone, Copy)]
@@ -14,22 +12,22 @@ struct Row {
 
 fn row_len(block: &[u8], spec: u32, at: usize) -> Row {
     match leb128::leb128_u64(block, at) {
-        ParsedU64::Number(len, next) => Row { spec, len, next },
-        ParsedU64::Refused(_, place) => Row {
+        Ok((len, next)) => Row { spec, len, next },
+        Err(refusal) => Row {
             spec,
             len: 0,
-            next: place,
+            next: refusal.1,
         },
     }
 }
 
 fn row_at(block: &[u8], at: usize) -> Row {
     match leb128::leb128_u32(block, at) {
-        ParsedU32::Number(spec, next) => row_len(block, spec, next),
-        ParsedU32::Refused(_, place) => Row {
+        Ok((spec, next)) => row_len(block, spec, next),
+        Err(refusal) => Row {
             spec: 0,
             len: 0,
-            next: place,
+            next: refusal.1,
         },
     }
 }
@@ -43,10 +41,10 @@ struct Rows {
 
 fn rows_of(block: &[u8]) -> Rows {
     match leb128::leb128_u64(block, 0) {
-        ParsedU64::Number(count, at) => Rows { count, at },
-        ParsedU64::Refused(_, place) => Rows {
+        Ok((count, at)) => Rows { count, at },
+        Err(refusal) => Rows {
             count: 0,
-            at: place,
+            at: refusal.1,
         },
     }
 }
@@ -57,59 +55,46 @@ pub fn count(block: &[u8]) -> usize {
 
 // Where the data begin.
 fn data_at(block: &[u8], rows: Rows) -> usize {
-    let mut at = rows.at;
-    let mut i: u64 = 0;
-    while i < rows.count {
-        let r = row_at(block, at);
-        at = r.next;
-        i += 1;
-    }
-    at
+    (0..rows.count).fold(rows.at, |at, _| row_at(block, at).next)
 }
 
-// A column as its row has it, by its specification and its length, and where what is there of it begins and ends in the block.
+// A column as its row has it, by its specification and its length, where it begins in the block, and what is there of it.
 #[derive(Clone, Copy)]
-pub struct Piece {
+pub struct Piece<'b> {
     pub spec: u32,
     pub len: u64,
     pub start: usize,
-    pub end: usize,
-}
-
-fn least(a: usize, b: usize) -> usize {
-    if a < b { a } else { b }
-}
-
-// A column that begins at `start` by the lengths before it, in a block of so many bytes.
-fn piece_of(r: Row, start: usize, size: usize) -> Piece {
-    Piece {
-        spec: r.spec,
-        len: r.len,
-        start: least(start, size),
-        end: least(plus(start, r.len as usize), size),
-    }
+    pub part: &'b [u8],
 }
 
 // The column at a position. Behind the last one it begins where all of them end.
-pub fn piece_at(block: &[u8], position: usize) -> Piece {
+pub fn piece_at(block: &[u8], position: usize) -> Piece<'_> {
     let rows = rows_of(block);
     let mut at = rows.at;
     let mut start = data_at(block, rows);
-    let mut i = 0;
-    while i < position {
-        let r = row_at(block, at);
-        start = plus(start, r.len as usize);
-        at = r.next;
-        i += 1;
+    for _ in 0..position {
+        let row = row_at(block, at);
+        start = start.saturating_add(row.len as usize);
+        at = row.next;
     }
-    piece_of(row_at(block, at), start, block.len())
+    let row = row_at(block, at);
+    let end = start.saturating_add(row.len as usize).min(block.len());
+    start = start.min(block.len());
+    Piece {
+        spec: row.spec,
+        len: row.len,
+        start,
+        part: between(block, start, end),
+    }
 }
 
-// How many of its bytes are there.
-pub fn had(c: Piece) -> u64 {
-    pen::short_of(c.start, c.end) as u64
-}
+impl Piece<'_> {
+    // How many of its bytes are there.
+    pub fn had(self) -> u64 {
+        self.part.len() as u64
+    }
 
-pub fn is_whole(c: Piece) -> bool {
-    had(c) == c.len
+    pub fn is_whole(self) -> bool {
+        self.had() == self.len
+    }
 }

@@ -1,87 +1,90 @@
 // tablet salvage FILE --to OUT: a sound block of what a cut or broken one still holds.
-use crate::parts::{NO_ROOM, between, plus};
-use crate::pen::{Desk, Pen};
-use crate::{fates, files, help, make, parts, pen, refusals, rooms, rows, saved, words};
+use crate::parts::between;
+use crate::pen::{Desk, Pen, Said};
+use crate::refusals::{OfTable, Refusal};
+use crate::rows::Piece;
+use crate::{column, fates, files, help, make, rooms, rows, saved, words};
+use refusal::Why;
 use std::fs::File;
 use std::rt::Files;
 
-// What was said and written so far: how many bytes of the new table and of the new data, and how many columns lost something.
+// What was written so far: how many bytes of the new table and of the new data, none where there was no room, and how many columns lost something.
 #[derive(Clone, Copy)]
-struct Sofar<'p> {
-    pen: Pen<'p>,
-    table: usize,
-    data: usize,
+struct Sofar {
+    table: Option<usize>,
+    data: Option<usize>,
     lost: usize,
 }
 
-// One column more: its bytes, its row, and what is said of it.
-fn save_column<'p>(
-    block: &[u8],
+// One column more, its bytes in the data from `at` on: its row, and what is said of it.
+fn save_column(
+    pen: &mut Pen<'_>,
     position: usize,
+    c: Piece<'_>,
     table: &mut [u8],
     data: &mut [u8],
-    s: Sofar<'p>,
-) -> Sofar<'p> {
-    let c = rows::piece_at(block, position);
-    let part = between(block, c.start, c.end);
-    let got = saved::save(c.spec, part, rows::is_whole(c), data, s.data);
-    let row = make::put(table, s.table, c.spec as u64);
-    let next = make::put(table, row, got.len as u64);
-    let fate = got.fate;
-    let p = s.pen;
+    at: usize,
+    s: Sofar,
+) -> Sofar {
+    let saved = saved::save(c, data, at);
+    fates::say(pen, position, c, saved);
+    let len = saved.len.unwrap_or(usize::MAX);
+    let lost = usize::from(fates::is_loss(saved.fate));
     Sofar {
-        pen: fates::say(p, position, c, part, got),
-        table: next,
-        data: plus(s.data, got.len),
-        lost: plus(s.lost, fates::losses(fate)),
+        table: s
+            .table
+            .and_then(|at| make::put_row(table, at, c.spec, len as u64)),
+        data: saved.len.map(|len| at.saturating_add(len)),
+        lost: s.lost.saturating_add(lost),
     }
 }
 
 // All n columns, or those up to one for which there is no room.
-fn save_columns<'p>(
+fn save_columns(
+    pen: &mut Pen<'_>,
     block: &[u8],
     n: usize,
     table: &mut [u8],
     data: &mut [u8],
-    begun: Sofar<'p>,
-) -> Sofar<'p> {
-    let mut s = begun;
-    let mut i = 0;
-    while i < n {
-        if s.data == NO_ROOM {
-            return s;
+) -> Sofar {
+    let mut s = Sofar {
+        table: make::put_number(table, 0, n as u64),
+        data: Some(0),
+        lost: 0,
+    };
+    for position in 0..n {
+        if let Some(at) = s.data {
+            let c = rows::piece_at(block, position);
+            s = save_column(pen, position, c, table, data, at, s);
         }
-        s = save_column(block, i, table, data, s);
-        i += 1;
     }
     s
 }
 
 // The last words: the new file, and as a note that something is gone, of a column or behind the last one.
-fn say_done(path: &[u8], to: &[u8], s: Sofar<'_>, n: usize, whole: bool, desk: Desk) -> bool {
-    let size = plus(s.table, s.data) as u64;
-    let p = pen::form(
-        pen::text(s.pen, to),
-        b": % bytes, columns: %",
-        size,
-        n as u64,
-        0,
-        0,
-    );
-    if whole && s.lost == 0 {
-        return pen::finish(pen::text(p, b", all of them whole\n"), desk);
+fn say_done(
+    mut out: Pen<'static>,
+    path: &[u8],
+    to: &[u8],
+    size: usize,
+    n: usize,
+    lost: usize,
+    whole: bool,
+    desk: Desk,
+) -> Result<(), Said> {
+    out.bytes(to);
+    write!(out, ": {size} bytes, columns: {n}");
+    if whole && lost == 0 {
+        writeln!(out, ", all of them whole");
+        return out.finish(desk);
     }
-    pen::finish(pen::text(p, b"\n"), desk);
-    let q = pen::text(files::about(to, desk), b"it is a salvage of ");
-    pen::form(
-        pen::text(q, path),
-        b"; columns that lost something: % of %\n",
-        s.lost as u64,
-        n as u64,
-        0,
-        0,
-    );
-    false
+    writeln!(out);
+    let _ = out.finish(desk);
+    let mut notes = files::about(to, desk);
+    write!(notes, "it is a salvage of ");
+    notes.bytes(path);
+    writeln!(notes, "; columns that lost something: {lost} of {n}");
+    Err(Said)
 }
 
 // A block whose rows are known, and fit the data where it is whole, saved in a new file.
@@ -93,110 +96,62 @@ fn save_block(
     over: bool,
     whole: bool,
     desk: Desk,
-) -> bool {
+) -> Result<(), Said> {
     let n = rows::count(block);
     let mut table = [0u8; 1024];
     let mut data = rooms::block();
-    let begun = Sofar {
-        pen: pen::on(desk.out),
-        table: make::put(&mut table, 0, n as u64),
-        data: 0,
-        lost: 0,
-    };
-    let s = save_columns(block, n, &mut table, &mut data, begun);
-    if rooms::LARGEST < plus(s.table, s.data) {
-        pen::text(refusals::say(files::about(to, desk), 10, 0), b"\n");
-        return false;
-    }
-    let front = between(&table, 0, s.table);
-    if files::save_both(rt, to, front, between(&data, 0, s.data), over, desk) {
-        return say_done(path, to, s, n, whole, desk);
-    }
-    false
+    let mut out = desk.out();
+    let s = save_columns(&mut out, block, n, &mut table, &mut data);
+    let size = rooms::within(s.table, s.data).map_err(|refusal| files::say_refused(
+        to, refusal, desk,
+    ))?;
+    let front = between(&table, 0, s.table.unwrap_or(0));
+    let rest = between(&data, 0, s.data.unwrap_or(0));
+    files::save_both(rt, to, front, rest, over, desk)?;
+    say_done(out, path, to, size, n, s.lost, whole, desk)
 }
 
 // The refusal of a table is said. 14 and 15 leave its rows, by which the columns can be told apart; no other does.
-fn say_table(path: &[u8], block: &[u8], number: u8, place: usize, desk: Desk) {
-    let p = refusals::say_of_table(files::about(path, desk), number, place);
-    if number == 14 {
-        pen::text(p, b"\n");
-        return;
+fn say_table(path: &[u8], block: &[u8], refusal: Refusal, desk: Desk) {
+    let mut notes = files::about(path, desk);
+    writeln!(notes, "{}", OfTable(refusal));
+    match refusal.why {
+        Why::ColumnsTooLong => {}
+        Why::ColumnsTooShort => {
+            let end = rows::piece_at(block, rows::count(block)).start;
+            writeln!(
+                notes,
+                "  bytes behind the last column, which belong to no column and are left out: {}",
+                block.len().saturating_sub(end)
+            );
+        }
+        _ => writeln!(
+            notes,
+            "  the table itself is broken: its columns cannot be told apart, and nothing is saved"
+        ),
     }
-    if number == 15 {
-        say_behind(p, block);
-        return;
-    }
-    pen::text(
-        p,
-        b"\n  the table itself is broken: its columns cannot be told apart, and nothing is saved\n",
-    );
 }
 
-// Bytes behind the last column.
-fn say_behind<'p>(p: Pen<'p>, block: &[u8]) -> Pen<'p> {
-    let end = rows::piece_at(block, rows::count(block)).start;
-    pen::form(
-        p,
-        b"\n  bytes behind the last column, which belong to no column and are left out: %\n",
-        pen::short_of(end, block.len()) as u64,
-        0,
-        0,
-        0,
-    )
-}
-
-// A block that was read, saved as far as its table lets its columns be told apart. Bytes that are left out are a loss too.
-fn salvage(
-    rt: &impl Files<File = File>,
-    path: &[u8],
-    block: &[u8],
-    to: &[u8],
-    over: bool,
-    desk: Desk,
-) -> bool {
-    let o = raw_column::read_table(block);
-    if o.number == 0 {
-        return save_block(rt, path, block, to, over, true, desk);
-    }
-    say_table(path, block, o.number, o.place, desk);
-    if o.number == 14 || o.number == 15 {
-        save_block(rt, path, block, to, over, false, desk);
-    }
-    false
-}
-
-// FILE --to OUT.
-fn salvage_to(rt: &impl Files<File = File>, line: &[u8], over: bool, desk: Desk) -> bool {
-    let mut block = rooms::block();
+// FILE --to OUT: saved as far as the table lets the columns be told apart. Bytes that are left out are a loss too.
+fn salvage(rt: &impl Files<File = File>, line: &[u8], over: bool, desk: Desk) -> Result<(), Said> {
+    let mut room = rooms::block();
     let path = words::word(line, 1);
-    let n = files::read(rt, path, &mut block, desk);
-    if n == files::FAILED {
-        return false;
-    }
     let to = words::word(line, 3);
-    if !files::is_free(rt, to, over, desk) {
-        return false;
+    let block = files::read(rt, path, &mut room, desk)?;
+    files::check_free(rt, to, over, desk)?;
+    let Err(refusal) = column::table(block) else {
+        return save_block(rt, path, block, to, over, true, desk);
+    };
+    say_table(path, block, refusal, desk);
+    if matches!(refusal.why, Why::ColumnsTooLong | Why::ColumnsTooShort) {
+        let _ = save_block(rt, path, block, to, over, false, desk);
     }
-    salvage(rt, path, between(&block, 0, n), to, over, desk)
+    Err(Said)
 }
 
-fn wrong(desk: Desk) -> bool {
-    help::wrong(b"salvage FILE --to OUT [--over]", desk)
-}
-
-pub fn run(rt: &impl Files<File = File>, line: &[u8], desk: Desk) -> bool {
-    let all = words::count(line);
-    if !parts::same(words::word(line, 2), b"--to") {
-        return wrong(desk);
+pub fn run(rt: &impl Files<File = File>, line: &[u8], desk: Desk) -> Result<(), Said> {
+    match (words::word(line, 2), words::over(line, 4)) {
+        (b"--to", Some(over)) => salvage(rt, line, over, desk),
+        _ => help::wrong("salvage FILE --to OUT [--over]", desk),
     }
-    if all == 4 {
-        return salvage_to(rt, line, false, desk);
-    }
-    if all != 5 {
-        return wrong(desk);
-    }
-    if parts::same(words::word(line, 4), b"--over") {
-        return salvage_to(rt, line, true, desk);
-    }
-    wrong(desk)
 }

@@ -1,8 +1,10 @@
 // One column saved: its bytes as they are where they read, else what survives of it, written anew by the library's salvage of its kind.
 use crate::kinds::Kind;
-use crate::parts::NO_ROOM;
+use crate::refusals::Refusal;
+use crate::rows::Piece;
+use crate::walk::Surveyed;
 use crate::{kinds, parts, rooms, walk};
-use encoding::Survey;
+use refusal::Why;
 use salvage::Salvaged;
 
 #[derive(Clone, Copy)]
@@ -14,22 +16,19 @@ pub enum Fate {
     // The bytes that are there read, and the table says that there were more.
     Short,
     // The readings before its fault are written anew.
-    Salvaged,
+    Salvaged(Refusal),
     // More readings survive than there are slots; all its bytes are there, and are kept with the fault.
-    Long,
-    // Nothing of it is written.
-    Lost,
+    Long(Refusal),
+    // Nothing of it is written, and why, where anything is known.
+    Lost(Option<Refusal>),
 }
 
-// What became of a column; how many of its readings survive; its fault, or why it is lost, by number and place; and how many bytes were written, NO_ROOM
-// where there was no room for them.
+// What became of a column; how many of its readings survive; and how many bytes were written, none where there was no room for them.
 #[derive(Clone, Copy)]
 pub struct Saved {
     pub fate: Fate,
     pub readings: u64,
-    pub number: u8,
-    pub place: usize,
-    pub len: usize,
+    pub len: Option<usize>,
 }
 
 fn unsigned(typ: u8, part: &[u8], out: &mut [u8]) -> Salvaged {
@@ -64,96 +63,92 @@ pub fn renew(spec: u32, part: &[u8], out: &mut [u8]) -> Salvaged {
         Kind::Unsigned => unsigned(typ, part, out),
         Kind::YesNo => yes_no(typ, part, out),
         Kind::Text => names(typ, part, out),
-        Kind::Unserved => Salvaged::Refused(17, 0),
+        Kind::Unserved => Err(refusal::Refusal(Why::NotServed, 0)),
     }
 }
 
-fn outcome(fate: Fate, found: Survey, len: usize) -> Saved {
+// How many bytes of a column were put into the data from `at` on as they are.
+pub fn keep(part: &[u8], data: &mut [u8], at: usize) -> Option<usize> {
+    parts::put(data, at, part)?;
+    Some(part.len())
+}
+
+fn kept(fate: Fate, readings: u64, part: &[u8], data: &mut [u8], at: usize) -> Saved {
     Saved {
         fate,
-        readings: found.readings,
-        number: found.number,
-        place: found.place,
-        len,
+        readings,
+        len: keep(part, data, at),
     }
 }
 
-// The bytes as they are, in the data from `at` on.
-fn keep(fate: Fate, found: Survey, part: &[u8], data: &mut [u8], at: usize) -> Saved {
-    if parts::put(data, at, part) == NO_ROOM {
-        return outcome(fate, found, NO_ROOM);
-    }
-    outcome(fate, found, part.len())
-}
-
-fn lose(number: u8) -> Saved {
+fn lost(why: Option<Refusal>) -> Saved {
     Saved {
-        fate: Fate::Lost,
+        fate: Fate::Lost(why),
         readings: 0,
-        number,
-        place: 0,
-        len: 0,
+        len: Some(0),
+    }
+}
+
+// A broken column for which there is no room in the data: its fault's number is said.
+fn no_room(fault: Refusal) -> Saved {
+    Saved {
+        fate: Fate::Lost(Some(fault.at(0))),
+        readings: 0,
+        len: None,
     }
 }
 
 // A broken column whose salvage is refused: 10, for want of room in the data, or 9, of slots.
 fn refused(
-    number: u8,
-    found: Survey,
-    part: &[u8],
-    whole: bool,
+    why: Why,
+    readings: u64,
+    fault: Refusal,
+    c: Piece<'_>,
     data: &mut [u8],
     at: usize,
 ) -> Saved {
-    if number == 10 {
-        return outcome(Fate::Lost, found, NO_ROOM);
+    if why == Why::OutputTooShort {
+        return no_room(fault);
     }
-    if whole {
-        return keep(Fate::Long, found, part, data, at);
+    if c.is_whole() {
+        return kept(Fate::Long(fault), readings, c.part, data, at);
     }
-    lose(number)
+    lost(Some(Refusal::new(why, 0)))
 }
 
-fn save_broken(
-    spec: u32,
-    found: Survey,
-    part: &[u8],
-    whole: bool,
-    data: &mut [u8],
-    at: usize,
-) -> Saved {
-    if data.len() < at {
-        return outcome(Fate::Lost, found, NO_ROOM);
-    }
-    match renew(spec, part, &mut data[at..]) {
-        Salvaged::Saved(_, written, _, _) => outcome(Fate::Salvaged, found, written),
-        Salvaged::Refused(number, _) => refused(number, found, part, whole, data, at),
+fn save_broken(readings: u64, fault: Refusal, c: Piece<'_>, data: &mut [u8], at: usize) -> Saved {
+    let Some(room) = data.get_mut(at..) else {
+        return no_room(fault);
+    };
+    match renew(c.spec, c.part, room) {
+        Ok(saved) => Saved {
+            fate: Fate::Salvaged(fault),
+            readings,
+            len: Some(saved.written),
+        },
+        Err(refusal) => refused(refusal.0, readings, fault, c, data, at),
     }
 }
 
 // What a type that is not read here comes to: all its bytes, or nothing.
-fn save_unread(found: Survey, part: &[u8], whole: bool, data: &mut [u8], at: usize) -> Saved {
-    if whole {
-        return keep(Fate::Unread, found, part, data, at);
+fn save_unread(c: Piece<'_>, data: &mut [u8], at: usize) -> Saved {
+    if c.is_whole() {
+        return kept(Fate::Unread, 0, c.part, data, at);
     }
-    lose(17)
+    lost(Some(Refusal::new(Why::NotServed, 0)))
 }
 
-// A column of which this part is there, which may be all of it, saved in the data from `at` on.
-pub fn save(spec: u32, part: &[u8], whole: bool, data: &mut [u8], at: usize) -> Saved {
-    let kind = kinds::of_spec(spec);
-    let found = walk::survey(part, kind);
-    if !kinds::is_served(kind) {
-        return save_unread(found, part, whole, data, at);
+// A column of which a part is there, which may be all of it, saved in the data from `at` on.
+pub fn save(c: Piece<'_>, data: &mut [u8], at: usize) -> Saved {
+    let kind = kinds::of_spec(c.spec);
+    if kind == Kind::Unserved {
+        return save_unread(c, data, at);
     }
-    if found.number != 0 {
-        return save_broken(spec, found, part, whole, data, at);
+    let Surveyed { readings, fault } = walk::survey(c.part, kind);
+    match fault {
+        Some(fault) => save_broken(readings, fault, c, data, at),
+        None if c.is_whole() => kept(Fate::Whole, readings, c.part, data, at),
+        None if c.part.is_empty() => lost(None),
+        None => kept(Fate::Short, readings, c.part, data, at),
     }
-    if whole {
-        return keep(Fate::Whole, found, part, data, at);
-    }
-    if part.len() == 0 {
-        return lose(0);
-    }
-    keep(Fate::Short, found, part, data, at)
 }

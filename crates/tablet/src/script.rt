@@ -1,7 +1,7 @@
 // tablet script FILE: each line of a file as a command. What goes wrong is written in its place among the rest.
-use crate::parts::{after, between, byte_at, find};
-use crate::pen::Desk;
-use crate::{commands, files, help, pen, rooms, words};
+use crate::parts::{between, put};
+use crate::pen::{Desk, Said};
+use crate::{commands, files, help, rooms, words};
 use std::fs::File;
 use std::rt::Files;
 
@@ -12,137 +12,79 @@ struct Tally {
     wrong: usize,
 }
 
-// The words of a line, each with a 0 byte behind it; how many bytes they take, or none where there is no room.
-fn split(line: &[u8], out: &mut [u8]) -> usize {
-    if out.len() <= line.len() {
-        return 0;
-    }
+// The words of a line, each with a 0 byte behind it; none where there is no room. A blank between double quotes ends no word; the line's end does.
+fn split<'r>(line: &[u8], out: &'r mut [u8]) -> &'r [u8] {
     let mut n = 0;
-    let mut i = 0;
     let mut open = false;
-    while i <= line.len() {
-        n = put_byte(line, i, open, out, n);
-        if byte_at(line, i) == b'"' {
-            open = !open;
+    if line.len() < out.len() {
+        for b in line {
+            n = if *b == b' ' && !open {
+                end_word(out, n)
+            } else {
+                put(out, n, &[*b]).unwrap_or(n)
+            };
+            if *b == b'"' {
+                open = !open;
+            }
         }
-        i += 1;
+        n = end_word(out, n);
     }
-    n
+    between(out, 0, n)
 }
 
-// Does a word end here? A blank between double quotes ends none; the line's end does.
-fn is_break(line: &[u8], i: usize, open: bool) -> bool {
-    if line.len() <= i {
-        return true;
-    }
-    if open {
-        return false;
-    }
-    line[i] == b' '
-}
-
-// One byte of a line: a blank ends a word, where there is one.
-fn put_byte(line: &[u8], i: usize, open: bool, out: &mut [u8], n: usize) -> usize {
-    if out.len() <= n {
+// Ends the word before n, where one stands open there.
+fn end_word(out: &mut [u8], n: usize) -> usize {
+    if matches!(between(out, 0, n), [] | [.., 0]) {
         return n;
     }
-    if !is_break(line, i, open) {
-        out[n] = byte_at(line, i);
-        return n + 1;
-    }
-    if is_word_end(out, n) {
-        return n;
-    }
-    out[n] = 0;
-    n + 1
+    put(out, n, b"\0").unwrap_or(n)
 }
 
-// Does no word stand open before n?
-fn is_word_end(out: &[u8], n: usize) -> bool {
-    if n == 0 {
-        return true;
-    }
-    if out.len() < n {
-        return true;
-    }
-    out[n - 1] == 0
-}
-
-fn run_line(rt: &impl Files<File = File>, line: &[u8], desk: Desk) -> bool {
+fn run_line(rt: &impl Files<File = File>, line: &[u8], desk: Desk) -> Result<(), Said> {
     let mut room = rooms::block();
-    let n = split(line, &mut room);
-    let p = pen::text(pen::text(pen::on(desk.out), b"> tablet "), line);
-    pen::text(p, b"\n");
-    commands::run(rt, between(&room, 0, n), desk)
+    let words = split(line, &mut room);
+    let mut out = desk.out();
+    write!(out, "> tablet ");
+    out.bytes(line);
+    writeln!(out);
+    commands::run(rt, words, desk)
 }
 
 fn is_remark(line: &[u8]) -> bool {
-    if line.len() == 0 {
-        true
-    } else {
-        line[0] == b'#'
-    }
-}
-
-fn counted(rt: &impl Files<File = File>, t: Tally, line: &[u8], desk: Desk) -> Tally {
-    if is_remark(line) {
-        return t;
-    }
-    if run_line(rt, line, desk) {
-        return Tally {
-            run: after(t.run),
-            wrong: t.wrong,
-        };
-    }
-    Tally {
-        run: after(t.run),
-        wrong: after(t.wrong),
-    }
+    matches!(line, [] | [b'#', ..])
 }
 
 fn run_lines(rt: &impl Files<File = File>, s: &[u8], desk: Desk) -> Tally {
-    let mut t = Tally { run: 0, wrong: 0 };
-    let mut at = 0;
-    let mut turns = s.len();
-    while turns > 0 {
-        if s.len() <= at {
-            return t;
+    let mut tally = Tally { run: 0, wrong: 0 };
+    for line in s.split(|b| *b == b'\n') {
+        if !is_remark(line) {
+            tally.run = tally.run.saturating_add(1);
+            if run_line(rt, line, desk).is_err() {
+                tally.wrong = tally.wrong.saturating_add(1);
+            }
         }
-        let end = find(s, at, b'\n');
-        t = counted(rt, t, between(s, at, end), desk);
-        at = after(end);
-        turns -= 1;
     }
-    t
+    tally
 }
 
-fn judge(t: Tally, desk: Desk) -> bool {
-    if t.wrong == 0 {
-        return true;
-    }
-    pen::form(
-        pen::on(desk.notes),
-        b"tablet: commands that were refused: % of %\n",
-        t.wrong as u64,
-        t.run as u64,
-        0,
-        0,
-    );
-    false
-}
-
-pub fn run(rt: &impl Files<File = File>, line: &[u8], desk: Desk) -> bool {
+pub fn run(rt: &impl Files<File = File>, line: &[u8], desk: Desk) -> Result<(), Said> {
     if words::count(line) != 2 {
-        return help::wrong(b"script FILE", desk);
+        return help::wrong("script FILE", desk);
     }
-    let mut s = rooms::block();
-    let n = files::read(rt, words::word(line, 1), &mut s, desk);
-    if n == files::FAILED {
-        return false;
-    }
+    let mut room = rooms::block();
+    let lines = files::read(rt, words::word(line, 1), &mut room, desk)?;
     let page = Desk {
         out: desk.out,
         notes: desk.out,
     };
-    judge(run_lines(rt, between(&s, 0, n), page), desk)
+    let Tally { run, wrong } = run_lines(rt, lines, page);
+    if wrong == 0 {
+        return Ok(());
+    }
+    let mut notes = desk.notes();
+    writeln!(
+        notes,
+        "tablet: commands that were refused: {wrong} of {run}"
+    );
+    Err(Said)
 }

@@ -1,120 +1,91 @@
 // tablet show FILE: the table, a row a column.
-use crate::parts::{between, plus};
-use crate::pen::{Desk, Pen};
-use crate::{column, files, forms, help, kinds, pen, refusals, rooms, walk, words};
-use encoding::Answer;
+use crate::column::Column;
+use crate::kinds::Kind;
+use crate::pen::{Desk, Pen, Said};
+use crate::{column, files, forms, help, kinds, rooms, walk, words};
 use std::fs::File;
 use std::rt::Files;
 
-// What is known while rows are written: the pen, and how many columns do not read.
-#[derive(Clone, Copy)]
-struct Shown<'p> {
-    pen: Pen<'p>,
-    bad: usize,
-}
-
 // A row up to its readings.
-fn say_row(p: Pen<'_>, position: usize, spec: u32, len: usize) -> Pen<'_> {
-    let q = pen::text(pen::padded_number(p, position as u64, 10), b"0x");
-    let r = pen::blanks(
-        pen::hex(q, spec as u64),
-        pen::short_of(hex_digits(spec), 13),
+fn say_row(pen: &mut Pen<'_>, c: Column<'_>) {
+    let spec = c.spec;
+    let blanks = 13usize.saturating_sub(hex_digits(spec));
+    write!(pen, "{:<10}0x{spec:02x}{:blanks$}", c.position, "");
+    write!(
+        pen,
+        "{:<11}{:<16}{:<8}",
+        kinds::id(spec),
+        kinds::name(spec),
+        c.part.len()
     );
-    let t = kinds::say(pen::padded_number(r, kinds::id(spec), 11), spec, 16);
-    pen::padded_number(t, len as u64, 8)
 }
 
 // How many hex digits a specification is shown with, at least 2.
 fn hex_digits(spec: u32) -> usize {
     let digits = spec.checked_ilog2().unwrap_or(0) as usize / 4 + 1;
-    if digits < 2 { 2 } else { digits }
+    digits.max(2)
 }
 
-// A mark where a column is not in our form.
-fn say_form<'p>(p: Pen<'p>, part: &[u8], spec: u32) -> Pen<'p> {
-    if forms::is_other(part, spec) {
-        return forms::say(pen::text(p, b"; "), part, kinds::of_spec(spec));
+// How many readings a column has, or the refusal in words. Does it read, where it is read here?
+fn say_readings(pen: &mut Pen<'_>, c: Column<'_>) -> bool {
+    let kind = kinds::of_spec(c.spec);
+    if kind == Kind::Unserved {
+        writeln!(pen, "not read");
+        return true;
     }
-    p
-}
-
-// How many readings a column has, or the refusal in words.
-fn say_readings<'p>(p: Pen<'p>, part: &[u8], spec: u32) -> Shown<'p> {
-    let kind = kinds::of_spec(spec);
-    if !kinds::is_served(kind) {
-        return Shown {
-            pen: pen::text(p, b"not read\n"),
-            bad: 0,
-        };
-    }
-    match walk::count(part, kind) {
-        Answer::Done(n) => Shown {
-            pen: pen::text(say_form(pen::number(p, n), part, spec), b"\n"),
-            bad: 0,
-        },
-        Answer::Refused(number, place) => Shown {
-            pen: pen::text(refusals::say(p, number, place), b"\n"),
-            bad: 1,
-        },
+    match walk::count(c.part, kind) {
+        Ok(n) => {
+            write!(pen, "{n}");
+            // A mark where a column is not in our form.
+            if forms::is_other(c.part, c.spec) {
+                write!(pen, "; ");
+                forms::say(pen, c.part, kind);
+            }
+            writeln!(pen);
+            true
+        }
+        Err(refusal) => {
+            writeln!(pen, "{refusal}");
+            false
+        }
     }
 }
 
-fn show_column<'p>(p: Pen<'p>, block: &[u8], position: usize) -> Shown<'p> {
-    let c = column::locate(block, position);
-    let part = between(block, c.start, c.end);
-    let row = say_row(p, position, c.spec, part.len());
-    say_readings(row, part, c.spec)
+// How many columns do not read.
+fn show_columns(pen: &mut Pen<'_>, block: &[u8], rows: usize) -> usize {
+    let mut bad: usize = 0;
+    for position in 0..rows {
+        if let Ok(c) = column::locate(block, position) {
+            say_row(pen, c);
+            if !say_readings(pen, c) {
+                bad = bad.saturating_add(1);
+            }
+        }
+    }
+    bad
 }
 
-fn show_columns<'p>(p: Pen<'p>, block: &[u8], rows: usize) -> Shown<'p> {
-    let mut q = p;
-    let mut bad = 0;
-    let mut i = 0;
-    while i < rows {
-        let s = show_column(q, block, i);
-        let next = s.pen;
-        q = next;
-        bad = plus(bad, s.bad);
-        i += 1;
-    }
-    Shown { pen: q, bad }
-}
-
-// A note where columns do not read.
-fn judge(path: &[u8], s: Shown<'_>, desk: Desk) -> bool {
-    if s.bad == 0 {
-        return pen::finish(s.pen, desk);
-    }
-    column::say_unread(path, s.bad, desk);
-    false
-}
-
-fn show_block(path: &[u8], block: &[u8], desk: Desk) -> bool {
-    let o = raw_column::read_table(block);
-    if o.number != 0 {
-        column::say_table_refused(path, block, o.number, o.place, desk);
-        return false;
-    }
-    let t = o.table;
-    let head = pen::text(
-        pen::on(desk.out),
-        b"position  specification  id         type            bytes   readings\n",
+// With a note where columns do not read.
+fn show_block(path: &[u8], block: &[u8], desk: Desk) -> Result<(), Said> {
+    let table = column::table(block).map_err(|refusal| column::say_table_refused(
+        path, block, refusal, desk,
+    ))?;
+    let mut out = desk.out();
+    writeln!(
+        out,
+        "position  specification  id         type            bytes   readings"
     );
-    judge(path, show_columns(head, block, t.rows), desk)
-}
-
-fn show_file(rt: &impl Files<File = File>, path: &[u8], desk: Desk) -> bool {
-    let mut block = rooms::block();
-    let n = files::read(rt, path, &mut block, desk);
-    if n == files::FAILED {
-        return false;
+    match show_columns(&mut out, block, table.rows) {
+        0 => out.finish(desk),
+        bad => Err(column::say_unread(path, bad, desk)),
     }
-    show_block(path, between(&block, 0, n), desk)
 }
 
-pub fn run(rt: &impl Files<File = File>, line: &[u8], desk: Desk) -> bool {
+pub fn run(rt: &impl Files<File = File>, line: &[u8], desk: Desk) -> Result<(), Said> {
     if words::count(line) != 2 {
-        return help::wrong(b"show FILE", desk);
+        return help::wrong("show FILE", desk);
     }
-    show_file(rt, words::word(line, 1), desk)
+    let path = words::word(line, 1);
+    let mut room = rooms::block();
+    show_block(path, files::read(rt, path, &mut room, desk)?, desk)
 }

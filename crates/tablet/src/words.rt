@@ -1,93 +1,56 @@
 // The words of a command, each with a 0 byte behind it.
-use crate::parts;
-use crate::parts::{NO_ROOM, after, begins, between, find};
 use std::env::{Env, FillError};
 
 // Where word k begins.
 pub fn start(words: &[u8], k: usize) -> usize {
-    let mut at = 0;
-    let mut i = 0;
-    while i < k {
-        at = after(find(words, at, 0));
-        i += 1;
-    }
-    at
+    words.split(|b| *b == 0).take(k).fold(0, |at: usize, word| {
+        at.saturating_add(word.len()).saturating_add(1)
+    })
 }
 
 // Word k; empty where there is none.
 pub fn word(words: &[u8], k: usize) -> &[u8] {
-    let at = start(words, k);
-    between(words, at, find(words, at, 0))
+    words.split(|b| *b == 0).nth(k).unwrap_or_default()
 }
 
 // How many words there are.
 pub fn count(words: &[u8]) -> usize {
-    let mut n = 0;
-    let mut i = 0;
-    while i < words.len() {
-        if words[i] == 0 {
-            n = after(n);
-        }
-        i += 1;
-    }
-    n
+    words.iter().filter(|b| **b == 0).count()
 }
 
-// Which word of a list this is; the number of its words where it is none.
-pub fn index(list: &[u8], name: &[u8]) -> usize {
-    let all = count(list);
-    let mut i = 0;
-    while i < all {
-        if parts::same(word(list, i), name) {
-            return i;
-        }
-        i += 1;
-    }
-    all
+// The first word from k on that is an option, which begins with two dashes.
+pub fn option(words: &[u8], k: usize) -> Option<usize> {
+    let mut all = words.split(|b| *b == 0).enumerate().skip(k);
+    all.find(|(_, word)| word.starts_with(b"--"))
+        .map(|(i, _)| i)
 }
 
-// The first word from k on that is an option, which begins with two dashes; the number of words where there is none.
-pub fn option(words: &[u8], k: usize) -> usize {
-    let all = count(words);
-    let mut i = k;
-    while i < all {
-        if begins(word(words, i), b"--") {
-            return i;
-        }
-        i += 1;
-    }
-    all
-}
-
-// Argument i of the program behind the words so far, where there is one; the place behind it, or NO_ROOM.
-fn add_argument(rt: &impl Env, i: usize, line: &mut [u8], at: usize) -> Option<usize> {
-    if line.len() < at {
-        return Some(NO_ROOM);
-    }
-    match rt.arg(i, &mut line[at..]) {
-        Ok(n) => {
-            if line.len() - at <= n {
-                return Some(NO_ROOM);
-            }
-            line[at + n] = 0;
-            Some(at + n + 1)
-        }
-        Err(FillError::TooLong) => Some(NO_ROOM),
-        Err(FillError::NotPresent) => None,
+// Whether --over stands from word k on, and nothing else; none where anything else does.
+pub fn over(words: &[u8], k: usize) -> Option<bool> {
+    match count(words).checked_sub(k) {
+        Some(0) => Some(false),
+        Some(1) => (word(words, k) == b"--over".as_slice()).then_some(true),
+        _ => None,
     }
 }
 
-// The program's arguments as words; how many bytes they take, or NO_ROOM.
-pub fn arguments(rt: &impl Env, line: &mut [u8]) -> usize {
+// Puts argument i of the program at a place of the line, and answers the place behind it.
+fn add_argument(rt: &impl Env, i: usize, line: &mut [u8], at: usize) -> Result<usize, FillError> {
+    let room = line.get_mut(at..).ok_or(FillError::TooLong)?;
+    let n = rt.arg(i, room)?;
+    *room.get_mut(n).ok_or(FillError::TooLong)? = 0;
+    Ok(at.saturating_add(n).saturating_add(1))
+}
+
+// The program's arguments as words; none where the line has no room for them.
+pub fn arguments<'r>(rt: &impl Env, line: &'r mut [u8]) -> Option<&'r [u8]> {
     let mut at = 0;
     for i in 1..usize::MAX {
-        let Some(next) = add_argument(rt, i, line, at) else {
-            return at;
-        };
-        if next == NO_ROOM {
-            return NO_ROOM;
+        match add_argument(rt, i, line, at) {
+            Ok(next) => at = next,
+            Err(FillError::NotPresent) => break,
+            Err(FillError::TooLong) => return None,
         }
-        at = next;
     }
-    at
+    line.get(..at)
 }

@@ -6,7 +6,7 @@ use mathlib.Core.Bool.{Bool, true, false, cond}
 use native.Mathlib.Omega.{arith}
 use lib.ListN.{length}
 use borrow.Author.Tests.{le-leb, lt-leb}
-use Rattle.leb128.specs.Got.{Got, got, bad}
+use Rattle.leb128.specs.Got.{got, bad}
 use Rattle.utf8.specs.Utf8.{is_utf8}
 use Rattle.text.specs.Text.{bytes_at, valued}
 

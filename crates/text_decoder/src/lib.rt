@@ -11,7 +11,7 @@ ghost use Rattle.encoding.specs.Column.{spot, repeated, literals, run_at, trace}
 ghost use Rattle.encoding.specs.Head.{head_at};
 ghost use Rattle.encoding.specs.Limit.{limit};
 ghost use Rattle.encoding.specs.Slots.{flag_of, Room, Wrote};
-ghost use Rattle.encoding.specs.Survivors.{survey_of, surviving};
+ghost use Rattle.encoding.specs.Survivors.{seen, survey_of, surviving};
 ghost use Rattle.encoding.specs.Walk.{outcome};
 ghost use Rattle.text.specs.Name.{start_of, length_of};
 ghost use Rattle.text.specs.Text.{valued, text_at, text_e};
@@ -19,21 +19,13 @@ ghost use Rattle.text_decoder.specs.Cases.{name_of, step_of};
 ghost use Rattle.text_decoder.specs.Slots.{DecodedNames};
 
 use encoding::{Answer, Head, Survey};
-use leb128::ParsedU64;
+use refusal::{Refusal, Why};
 
-// Where a name stands: its first byte and its length; or a refusal's number and place.
-#[derive(Clone, Copy)]
-pub enum Name {
-    Found(usize, usize),
-    Refused(u8, usize),
-}
+// Where a name stands: its first byte and its length.
+pub type Name = Result<(usize, usize), Refusal>;
 
 // Behind a run: the next position and how many readings came so far; or the run's fault.
-#[derive(Clone, Copy)]
-enum Step {
-    On(usize, u64),
-    Off(u8, usize),
-}
+type Step = Result<(usize, u64), Refusal>;
 
 // The name of n bytes from q on, whose length number stands at `at`. The length is compared with what is left, so that no sum wraps.
 fn name_behind(s: &[u8], at: usize, q: usize, n: u64) -> Name
@@ -42,14 +34,14 @@ fn name_behind(s: &[u8], at: usize, q: usize, n: u64) -> Name
 {
     let left = (s.len() - q) as u64;
     if left < n {
-        return Name::Refused(1, at);
+        return Err(Refusal(Why::Cut, at));
     }
     let len = n as usize;
     let end = q + len;
     if utf8::is_utf8(&s[q..end]) {
-        Name::Found(q, len)
+        Ok((q, len))
     } else {
-        Name::Refused(20, at)
+        Err(Refusal(Why::NotUtf8, at))
     }
 }
 
@@ -57,14 +49,12 @@ fn name_behind(s: &[u8], at: usize, q: usize, n: u64) -> Name
 pub fn name_at(s: &[u8], at: usize) -> Name
     ensures { name_of s.now result ≡ text_at s.now at }
 {
-    match leb128::leb128_u64(s, at) {
-        ParsedU64::Number(n, q) => name_behind(s, at, q, n),
-        ParsedU64::Refused(number, place) => Name::Refused(number, place),
-    }
+    let (n, q) = leb128::leb128_u64(s, at)?;
+    name_behind(s, at, q, n)
 }
 
 // How the run at `at` begins, by the fixed table.
-fn head_of(table: &[i8; 256], s: &[u8], at: usize, had: u64) -> Head
+fn head_of(table: &[i8; 256], s: &[u8], at: usize, had: u64) -> Result<Head, Refusal>
     requires { table.now ≡ short }
     ensures { head_of result ≡ head_at s.now at had }
 {
@@ -76,10 +66,8 @@ fn scan_repeat(s: &[u8], q: usize, had: u64, c: u64) -> Step
     requires { had + c ≤ limit }
     ensures { step_of result ≡ (repeated had c q (text_at s.now q)).next }
 {
-    match name_at(s, q) {
-        Name::Found(start, len) => Step::On(start + len, had + c),
-        Name::Refused(n, place) => Step::Off(n, place),
-    }
+    let (start, len) = name_at(s, q)?;
+    Ok((start + len, had + c))
 }
 
 // c literal values from q on, behind which there are `total` readings.
@@ -89,17 +77,11 @@ fn scan_literal(s: &[u8], q: usize, total: u64, c: u64) -> Step
     let mut at = q;
     let mut left = c;
     while 0 < left {
-        match name_at(s, at) {
-            Name::Found(start, len) => {
-                at = start + len;
-                left -= 1;
-            }
-            Name::Refused(n, place) => {
-                return Step::Off(n, place);
-            }
-        }
+        let (first, len) = name_at(s, at)?;
+        at = first + len;
+        left -= 1;
     }
-    Step::On(at, total)
+    Ok((at, total))
 }
 
 // The run at `at`, before which there are `had` readings.
@@ -108,11 +90,10 @@ fn scan_run(table: &[i8; 256], s: &[u8], at: usize, had: u64) -> Step
     requires table_value { table.now ≡ short }
     ensures { step_of result ≡ (run_at text_e s.now (spot at had)).next }
 {
-    match head_of(table, s, at, had) {
+    match head_of(table, s, at, had)? {
         Head::Repeat(c, q) => scan_repeat(s, q, had, c),
         Head::Literal(c, q) => scan_literal(s, q, had + c, c),
-        Head::Absent(c, next) => Step::On(next, had + c),
-        Head::Refused(n, place) => Step::Off(n, place),
+        Head::Absent(c, next) => Ok((next, had + c)),
     }
 }
 
@@ -124,11 +105,11 @@ fn read_literals(s: &[u8], q: usize, c: u64) -> u64
     let mut read: u64 = 0;
     while read < c {
         match name_at(s, at) {
-            Name::Found(start, len) => {
+            Ok((start, len)) => {
                 at = start + len;
                 read += 1;
             }
-            Name::Refused(_, _) => {
+            Err(_) => {
                 return read;
             }
         }
@@ -144,43 +125,41 @@ fn read_run(table: &[i8; 256], s: &[u8], at: usize, had: u64) -> u64
     ensures result_bound { had + result ≤ limit }
 {
     match head_of(table, s, at, had) {
-        Head::Repeat(c, q) => match name_at(s, q) {
-            Name::Found(_, _) => c,
-            Name::Refused(_, _) => 0,
+        Ok(Head::Repeat(c, q)) => match name_at(s, q) {
+            Ok(_) => c,
+            Err(_) => 0,
         },
-        Head::Literal(c, q) => read_literals(s, q, c),
-        Head::Absent(c, _) => c,
-        Head::Refused(_, _) => 0,
+        Ok(Head::Literal(c, q)) => read_literals(s, q, c),
+        Ok(Head::Absent(c, _)) => c,
+        Err(_) => 0,
     }
 }
 
 // What survives of a column: how many readings before its first fault, and that fault.
 pub fn survey(s: &[u8]) -> Survey
-    ensures { result ≡ survey_of (trace text_e s.now) }
+    ensures { seen result ≡ survey_of (trace text_e s.now) }
 {
     let table = leb128::short_numbers();
     let mut at: usize = 0;
     let mut had: u64 = 0;
     while at < s.len() {
         match scan_run(&table, s, at, had) {
-            Step::On(next, n) => {
+            Ok((next, n)) => {
                 at = next;
                 had = n;
             }
-            Step::Off(number, place) => {
+            Err(fault) => {
                 let read = read_run(&table, s, at, had);
                 return Survey {
                     readings: had + read,
-                    number: number,
-                    place: place,
+                    fault: Some(fault),
                 };
             }
         }
     }
     Survey {
         readings: had,
-        number: 0,
-        place: 0,
+        fault: None,
     }
 }
 
@@ -189,10 +168,10 @@ pub fn count(s: &[u8]) -> Answer
     ensures { answer_of result ≡ outcome (trace text_e s.now) }
 {
     let found = survey(s);
-    if found.number == 0 {
-        return Answer::Done(found.readings);
+    match found.fault {
+        None => Ok(found.readings),
+        Some(fault) => Err(fault),
     }
-    Answer::Refused(found.number, found.place)
 }
 
 // The same reading in c slots from `from` on.
@@ -242,22 +221,18 @@ fn fill_repeat(
     ensures wrote_2 { Wrote length_of flag_of (repeated had c q (text_at s.now q)).readings had
         lens.old lens.new present.old present.new }
 {
-    match name_at(s, q) {
-        Name::Found(start, len) => {
-            fill_same(
-                starts,
-                lens,
-                present,
-                had as usize,
-                c,
-                start as u64,
-                len as u64,
-                1,
-            );
-            Step::On(start + len, had + c)
-        }
-        Name::Refused(number, place) => Step::Off(number, place),
-    }
+    let (start, len) = name_at(s, q)?;
+    fill_same(
+        starts,
+        lens,
+        present,
+        had as usize,
+        c,
+        start as u64,
+        len as u64,
+        1,
+    );
+    Ok((start + len, had + c))
 }
 
 // c literal values from q on.
@@ -283,21 +258,15 @@ fn fill_literal(
     let mut i = from;
     let mut left = c;
     while 0 < left {
-        match name_at(s, at) {
-            Name::Found(start, len) => {
-                starts[i] = start as u64;
-                lens[i] = len as u64;
-                present[i] = 1;
-                at = start + len;
-                i += 1;
-                left -= 1;
-            }
-            Name::Refused(number, place) => {
-                return Step::Off(number, place);
-            }
-        }
+        let (start, len) = name_at(s, at)?;
+        starts[i] = start as u64;
+        lens[i] = len as u64;
+        present[i] = 1;
+        at = start + len;
+        i += 1;
+        left -= 1;
     }
-    Step::On(at, total)
+    Ok((at, total))
 }
 
 // The run at `at`, before which there are `had` readings.
@@ -320,14 +289,13 @@ fn fill_run(
     ensures wrote_2 { Wrote length_of flag_of (run_at text_e s.now (spot at had)).readings had
         lens.old lens.new present.old present.new }
 {
-    match head_of(table, s, at, had) {
+    match head_of(table, s, at, had)? {
         Head::Repeat(c, q) => fill_repeat(s, q, had, c, starts, lens, present),
         Head::Literal(c, q) => fill_literal(s, q, had + c, c, had as usize, starts, lens, present),
         Head::Absent(c, next) => {
             fill_same(starts, lens, present, had as usize, c, 0, 0, 0);
-            Step::On(next, had + c)
+            Ok((next, had + c))
         }
-        Head::Refused(number, place) => Step::Off(number, place),
     }
 }
 
@@ -345,17 +313,11 @@ fn fill(s: &[u8], starts: &mut [u64], lens: &mut [u64], present: &mut [u8]) -> A
     let mut at: usize = 0;
     let mut filled: u64 = 0;
     while at < s.len() {
-        match fill_run(&table, s, at, filled, starts, lens, present) {
-            Step::On(next, n) => {
-                at = next;
-                filled = n;
-            }
-            Step::Off(number, place) => {
-                return Answer::Refused(number, place);
-            }
-        }
+        let (next, n) = fill_run(&table, s, at, filled, starts, lens, present)?;
+        at = next;
+        filled = n;
     }
-    Answer::Done(filled)
+    Ok(filled)
 }
 
 // The whole column into lent slots.
@@ -364,21 +326,16 @@ pub fn decode(s: &[u8], starts: &mut [u64], lens: &mut [u64], present: &mut [u8]
         lens.old lens.new present.old present.new (answer_of result) }
 {
     if starts.len() != lens.len() {
-        return Answer::Refused(8, 0);
+        return Err(Refusal(Why::BadList, 0));
     }
     if lens.len() != present.len() {
-        return Answer::Refused(8, 0);
+        return Err(Refusal(Why::BadList, 0));
     }
-    match count(s) {
-        Answer::Done(n) => {
-            if n <= lens.len() as u64 {
-                fill(s, starts, lens, present)
-            } else {
-                Answer::Refused(9, 0)
-            }
-        }
-        Answer::Refused(n, place) => Answer::Refused(n, place),
+    let n = count(s)?;
+    if n <= lens.len() as u64 {
+        return fill(s, starts, lens, present);
     }
+    Err(Refusal(Why::TooFewSlots, 0))
 }
 
 // What survives of a column into lent slots: 8, then 9 where too few are lent for it, else how many readings that is.
@@ -387,15 +344,16 @@ pub fn keep(s: &[u8], starts: &mut [u64], lens: &mut [u64], present: &mut [u8]) 
         lens.old lens.new present.old present.new (answer_of result) }
 {
     if starts.len() != lens.len() {
-        return Answer::Refused(8, 0);
+        return Err(Refusal(Why::BadList, 0));
     }
     if lens.len() != present.len() {
-        return Answer::Refused(8, 0);
+        return Err(Refusal(Why::BadList, 0));
     }
     let n = survey(s).readings;
     if n <= lens.len() as u64 {
-        fill(s, starts, lens, present);
-        return Answer::Done(n);
+        // Its refusal, if any, is the fault behind what survives.
+        let _ = fill(s, starts, lens, present);
+        return Ok(n);
     }
-    Answer::Refused(9, 0)
+    Err(Refusal(Why::TooFewSlots, 0))
 }

@@ -24,12 +24,11 @@ use Rattle.block_frame.specs.Columns.{new_block}
 use Rattle.block_frame.specs.Frame.{front_of, tail_of}
 use Rattle.block_frame.proofs.Blocks.{new-block}
 use Rattle.slots.specs.Splice.{in_slots}
-use Rattle.splice.specs.Edit.{Edited, stop, accepted, end_in, given_text, edited, answered, slots_left, out_left, refusal}
+use Rattle.splice.specs.Edit.{Edited, stop, accepted, end_in, given_text, edited, answered, slots_left, out_left, refusal, Spliced}
 use Rattle.splice.specs.Contract.{flag_in, starts_in, length_in, TextSpliced}
 use Rattle.splice.specs.Kinds.{text}
 use Rattle.splice.specs.Ready.{Ready, Finished}
 use Rattle.splice.specs.declared.End.{End}
-use Rattle.splice.specs.declared.Spliced.{Spliced}
 use Rattle.splice.specs.Steps.{ready, stopped, plan_for}
 use Rattle.splice.proofs.Counting.{values-outcome, text-counts}
 use Rattle.splice.proofs.Planning.{sound-is, in_order, plan-stops, plan-ready}

@@ -24,11 +24,10 @@ use Rattle.text.proofs.Texts.{text-trip, text-readable}
 use Rattle.column_part.specs.Part.{part_at}
 use Rattle.slots.specs.Splice.{in_slots}
 use Rattle.splice.specs.Contract.{flag_in, starts_in, length_in, text_edit, TextSpliced}
-use Rattle.splice.specs.Edit.{Edited, given_text, slots_left}
+use Rattle.splice.specs.Edit.{Edited, given_text, slots_left, Spliced}
 use Rattle.splice.specs.Kinds.{text}
 use Rattle.splice.specs.Lent.{Lent}
 use Rattle.splice.specs.declared.End.{End}
-use Rattle.splice.specs.declared.Spliced.{Spliced}
 use Rattle.splice.proofs.Demand3.{column_of, block_of, old_list, range_end, new_list, Writes, Accepted, is-accepted, run-list, text-demand-3}
 use Rattle.splice.proofs.Isolated.{accepted-good}
 use Rattle.splice.proofs.Numbered.{text-some, text-numbered, edited-some}

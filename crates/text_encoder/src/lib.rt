@@ -5,7 +5,7 @@
 ghost use Rattle.std.specs.Prelude.{◌≡◌, ◌-◌, ◌^◌, ◌≤◌, length};
 ghost use Rattle.std.proofs.lemmas.List.Edits.{sets};
 ghost use Rattle.leb128.specs.Answer.{within};
-ghost use Rattle.encoding.specs.Cases.{answer_of, size_of, fit};
+ghost use Rattle.encoding.specs.Cases.{answer_of, maybe_of, fit};
 ghost use Rattle.encoding.specs.Given.{sized, Encoded};
 ghost use Rattle.encoding.specs.Limit.{limit};
 ghost use Rattle.encoding.specs.Writer.{column_bytes};
@@ -22,11 +22,12 @@ mod writing;
 
 use crate::spliced::{put_spliced, spliced_len};
 use encoding::{Answer, Size};
+use refusal::{Refusal, Why};
 
 // How many bytes a list that was judged takes.
 fn list_len(bytes: &[u8], starts: &[u64], lens: &[u64], present: &[u8]) -> Size
     requires { (Pairs bytes.now starts.now lens.now present.now) × (length starts.now ≤ limit) }
-    ensures { size_of result ≡ fit (length (column_bytes text_e
+    ensures { maybe_of result ≡ fit (length (column_bytes text_e
         (name_list bytes.now starts.now lens.now present.now))) }
 {
     spliced_len(&bytes[..0], bytes, starts, lens, present, 0, 0)
@@ -38,12 +39,10 @@ pub fn encoded_len(bytes: &[u8], starts: &[u64], lens: &[u64], present: &[u8]) -
         (sized (column_bytes text_e (name_list bytes.now starts.now lens.now present.now))
         (names_judged bytes.now starts.now lens.now present.now)) }
 {
-    match given_names::judge_names(bytes, starts, lens, present) {
-        Answer::Done(_) => match list_len(bytes, starts, lens, present) {
-            Size::Is(n) => Answer::Done(n),
-            Size::Beyond => Answer::Refused(10, 0),
-        },
-        Answer::Refused(n, place) => Answer::Refused(n, place),
+    given_names::judge_names(bytes, starts, lens, present)?;
+    match list_len(bytes, starts, lens, present) {
+        Some(n) => Ok(n),
+        None => Err(Refusal(Why::OutputTooShort, 0)),
     }
 }
 
@@ -64,15 +63,10 @@ pub fn encode(bytes: &[u8], starts: &[u64], lens: &[u64], present: &[u8], out: &
         (names_judged bytes.now starts.now lens.now present.now)
         out.old out.new (answer_of result) }
 {
-    match encoded_len(bytes, starts, lens, present) {
-        Answer::Done(n) => {
-            if n <= out.len() as u64 {
-                put_list(bytes, starts, lens, present, out);
-                Answer::Done(n)
-            } else {
-                Answer::Refused(10, 0)
-            }
-        }
-        Answer::Refused(n, place) => Answer::Refused(n, place),
+    let n = encoded_len(bytes, starts, lens, present)?;
+    if n <= out.len() as u64 {
+        put_list(bytes, starts, lens, present, out);
+        return Ok(n);
     }
+    Err(Refusal(Why::OutputTooShort, 0))
 }

@@ -4,17 +4,18 @@ ghost use Rattle.std.specs.Prelude.{◌≡◌, ◌+◌, ◌-◌, ◌≤◌, max,
 ghost use Rattle.leb128.specs.Answer.{done};
 ghost use Rattle.encoding.specs.Writer.{column_bytes};
 ghost use Rattle.splice.specs.Contract.{TextSpliced};
-ghost use Rattle.splice.specs.Edit.{end_in, given_text};
+ghost use Rattle.splice.specs.Edit.{end_in, given_text, spliced_of};
 ghost use Rattle.splice.specs.Kinds.{text};
 ghost use Rattle.splice.specs.Ready.{Ready, put_behind};
 ghost use Rattle.text.specs.Text.{text_e};
-ghost use Rattle.encoding.specs.Cases.{size_of, fit};
+ghost use Rattle.encoding.specs.Cases.{maybe_of, fit};
 ghost use Rattle.text_encoder.specs.Edits.{new_names, Spliceable, cleared, Refilled, Refillable};
 
 use crate::spliced::{put_spliced, spliced_len};
 use block_frame::put_frame;
-use encoding::{Answer, Size};
-use splice::{End, Found, Planned, Spliced};
+use encoding::Size;
+use refusal::{Refusal, Why};
+use splice::{End, Found, Spliced};
 
 // The size of the new column, of the old one from `at` up to `till`.
 fn new_len(
@@ -30,7 +31,7 @@ fn new_len(
 ) -> Size
     requires at_le_till { (at ≤ till) × (till ≤ length block.now) }
     requires spliceable { Spliceable (take (till - at) (drop at block.now)) bytes.now new_starts.now new_lens.now new_present.now start end }
-    ensures { size_of result ≡ fit (length (column_bytes text_e (new_names (take (till - at) (drop at block.now)) bytes.now
+    ensures { maybe_of result ≡ fit (length (column_bytes text_e (new_names (take (till - at) (drop at block.now)) bytes.now
         new_starts.now new_lens.now new_present.now start end))) }
 {
     spliced_len(
@@ -100,8 +101,8 @@ fn refill(column: &[u8], m: usize, starts: &mut [u64], lens: &mut [u64], present
         present.old present.new }
 {
     match text_decoder::decode(column, starts, lens, present) {
-        Answer::Done(n) => clear(starts, lens, present, n as usize, m),
-        Answer::Refused(_, _) => {}
+        Ok(n) => clear(starts, lens, present, n as usize, m),
+        Err(_) => {}
     }
 }
 
@@ -149,19 +150,16 @@ fn put_block_text(
     lens: &mut [u64],
     present: &mut [u8],
     out: &mut [u8],
-) -> Spliced
+) -> Result<Spliced, Refusal>
     requires ready { Ready text block.now position start end (length new_starts.now) (length starts.old) found.at found.till found.old found.len }
     requires new_present_value { given_text (length starts.old) (length lens.old) (length present.old) bytes.now new_starts.now new_lens.now new_present.now ≡ done 0 }
     requires size_value { size ≡ length (column_bytes text_e (new_names (take (found.till - found.at) (drop found.at block.now)) bytes.now
         new_starts.now new_lens.now new_present.now start (end_in end found.old))) }
     ensures { TextSpliced text block.now position start end bytes.now new_starts.now new_lens.now
         new_present.now starts.old starts.new lens.old lens.new
-        present.old present.new out.old out.new result }
+        present.old present.new out.old out.new (spliced_of result) }
 {
-    let frame = put_frame(block, position, size, out);
-    if frame.number != 0 {
-        return splice::refused(frame.number, frame.place);
-    }
+    let frame = put_frame(block, position, size, out)?;
     let at = frame.at;
     put_new(
         block,
@@ -203,14 +201,14 @@ fn edit_text(
     lens: &mut [u64],
     present: &mut [u8],
     out: &mut [u8],
-) -> Spliced
+) -> Result<Spliced, Refusal>
     requires ready { Ready text block.now position start end (length new_starts.now) (length starts.old) found.at found.till found.old found.len }
     requires new_present_value { given_text (length starts.old) (length lens.old) (length present.old) bytes.now new_starts.now new_lens.now new_present.now ≡ done 0 }
     ensures { TextSpliced text block.now position start end bytes.now new_starts.now new_lens.now
         new_present.now starts.old starts.new lens.old lens.new
-        present.old present.new out.old out.new result }
+        present.old present.new out.old out.new (spliced_of result) }
 {
-    match new_len(
+    let size = new_len(
         block,
         found.at,
         found.till,
@@ -220,8 +218,9 @@ fn edit_text(
         new_present,
         start,
         splice::end_in(end, found.old),
-    ) {
-        Size::Is(n) => put_block_text(
+    );
+    match size {
+        Some(n) => put_block_text(
             block,
             position,
             found,
@@ -237,7 +236,7 @@ fn edit_text(
             present,
             out,
         ),
-        Size::Beyond => splice::refused(10, 0),
+        None => Err(Refusal(Why::OutputTooShort, 0)),
     }
 }
 
@@ -255,12 +254,12 @@ pub fn splice_text(
     lens: &mut [u64],
     present: &mut [u8],
     out: &mut [u8],
-) -> Spliced
+) -> Result<Spliced, Refusal>
     ensures { TextSpliced text block.now position start end bytes.now new_starts.now new_lens.now
         new_present.now starts.old starts.new lens.old lens.new
-        present.old present.new out.old out.new result }
+        present.old present.new out.old out.new (spliced_of result) }
 {
-    match splice::plan_text(
+    let found = splice::plan_text(
         block,
         position,
         start,
@@ -272,22 +271,20 @@ pub fn splice_text(
         starts.len(),
         lens.len(),
         present.len(),
-    ) {
-        Planned::Ready(found) => edit_text(
-            block,
-            position,
-            found,
-            start,
-            end,
-            bytes,
-            new_starts,
-            new_lens,
-            new_present,
-            starts,
-            lens,
-            present,
-            out,
-        ),
-        Planned::Refused(n, place) => splice::refused(n, place),
-    }
+    )?;
+    edit_text(
+        block,
+        position,
+        found,
+        start,
+        end,
+        bytes,
+        new_starts,
+        new_lens,
+        new_present,
+        starts,
+        lens,
+        present,
+        out,
+    )
 }

@@ -5,7 +5,7 @@ ghost use Rattle.encoding.specs.Limit.{limit};
 ghost use Rattle.encoding.specs.Stretches.{stretches};
 ghost use Rattle.encoding.specs.Writer.{all_bytes, stretch_bytes, stretches_bytes, any_present, column_bytes};
 ghost use Rattle.text.specs.Text.{same_bytes, text_e};
-ghost use Rattle.encoding.specs.Cases.{size_of, fit};
+ghost use Rattle.encoding.specs.Cases.{maybe_of, fit};
 ghost use Rattle.encoding.specs.Cuts.{somes, stretch_in, PresentIn};
 ghost use Rattle.text_encoder.specs.Walks.{size_in, At, names_from, Pairs};
 
@@ -14,20 +14,20 @@ use crate::walk::{Held, Splicing, advanced, stepped};
 use encoding::{Size, StretchEnd};
 
 fn sum(a: u64, b: u64) -> Size
-    ensures { size_of result ≡ fit (a + b) }
+    ensures { maybe_of result ≡ fit (a + b) }
 {
     if a <= u64::MAX - b {
-        return Size::Is(a + b);
+        return Some(a + b);
     }
-    Size::Beyond
+    None
 }
 
 // A name's length number and its bytes; nothing of an absent reading.
 fn held_len(held: Held) -> Size
-    ensures { size_of result ≡ fit (size_in held) }
+    ensures { maybe_of result ≡ fit (size_in held) }
 {
     match held {
-        Held::Absent => Size::Is(0),
+        Held::Absent => Some(0),
         Held::Old(_, len) => sum(leb128_writer::len_u64(len as u64) as u64, len as u64),
         Held::New(_, len) => sum(leb128_writer::len_u64(len as u64) as u64, len as u64),
     }
@@ -35,12 +35,9 @@ fn held_len(held: Held) -> Size
 
 // The same behind so many bytes.
 fn counted(before: u64, held: Held) -> Size
-    ensures { size_of result ≡ fit (before + size_in held) }
+    ensures { maybe_of result ≡ fit (before + size_in held) }
 {
-    match held_len(held) {
-        Size::Is(n) => sum(before, n),
-        Size::Beyond => Size::Beyond,
-    }
+    sum(before, held_len(held)?)
 }
 
 // The names of k readings from here on, behind `before` bytes.
@@ -57,26 +54,18 @@ fn literal_len(
     requires pairs { Pairs bytes.now starts.now lens.now present.now }
     requires at { At column.now bytes.now starts.now lens.now present.now s }
     requires k_in_bounds { k ≤ length (names_from column.now bytes.now starts.now lens.now present.now s) }
-    ensures { size_of result ≡ fit (before + length (all_bytes text_e (somes (take k
+    ensures { maybe_of result ≡ fit (before + length (all_bytes text_e (somes (take k
         (names_from column.now bytes.now starts.now lens.now present.now s))))) }
 {
     let mut n = before;
     let mut left = k;
     let mut walk = s;
     while 0 < left {
-        let held = walk.held;
-        match counted(n, held) {
-            Size::Is(m) => {
-                n = m;
-            }
-            Size::Beyond => {
-                return Size::Beyond;
-            }
-        }
+        n = counted(n, walk.held)?;
         left -= 1;
         walk = stepped(column, bytes, starts, lens, present, walk);
     }
-    Size::Is(n)
+    Some(n)
 }
 
 // The stretch here.
@@ -94,12 +83,12 @@ fn stretch_len(
     requires s_len_bound { length (names_from column.now bytes.now starts.now lens.now present.now s) ≤ limit }
     requires times_nonzero { (0 < s.times) × PresentIn (names_from column.now bytes.now starts.now lens.now present.now s) stretch }
     requires stretch_nonzero { (0 < end_of stretch) × (end_of stretch ≤ length (names_from column.now bytes.now starts.now lens.now present.now s)) }
-    ensures { size_of result ≡ fit (length (stretch_bytes text_e (stretch_in
+    ensures { maybe_of result ≡ fit (length (stretch_bytes text_e (stretch_in
         (names_from column.now bytes.now starts.now lens.now present.now s) stretch))) }
 {
     let held = s.held;
     match stretch {
-        StretchEnd::Absent(k) => Size::Is(
+        StretchEnd::Absent(k) => Some(
             (leb128_writer::len_i64(0) + leb128_writer::len_u64(k as u64)) as u64,
         ),
         StretchEnd::Repeat(k) => counted(
@@ -131,7 +120,7 @@ fn bytes_len(
     requires pairs { Pairs bytes.now starts.now lens.now present.now }
     requires at { At column.now bytes.now starts.now lens.now present.now s }
     requires s_len_bound { length (names_from column.now bytes.now starts.now lens.now present.now s) ≤ limit }
-    ensures { size_of result ≡ fit (length (stretches_bytes text_e (stretches same_bytes
+    ensures { maybe_of result ≡ fit (length (stretches_bytes text_e (stretches same_bytes
         (names_from column.now bytes.now starts.now lens.now present.now s)))) }
 {
     let mut n: u64 = 0;
@@ -139,22 +128,11 @@ fn bytes_len(
     while 0 < walk.times {
         let found = stretch_at(column, bytes, starts, lens, present, walk);
         let stretch = found.stretch;
-        match stretch_len(column, bytes, starts, lens, present, walk, stretch) {
-            Size::Is(m) => match sum(n, m) {
-                Size::Is(k) => {
-                    n = k;
-                }
-                Size::Beyond => {
-                    return Size::Beyond;
-                }
-            },
-            Size::Beyond => {
-                return Size::Beyond;
-            }
-        }
+        let m = stretch_len(column, bytes, starts, lens, present, walk, stretch)?;
+        n = sum(n, m)?;
         walk = found.walk;
     }
-    Size::Is(n)
+    Some(n)
 }
 
 // Is any reading present?
@@ -194,11 +172,11 @@ pub(crate) fn column_len(
     requires pairs { Pairs bytes.now starts.now lens.now present.now }
     requires at { At column.now bytes.now starts.now lens.now present.now s }
     requires s_len_bound { length (names_from column.now bytes.now starts.now lens.now present.now s) ≤ limit }
-    ensures { size_of result ≡ fit (length (column_bytes text_e
+    ensures { maybe_of result ≡ fit (length (column_bytes text_e
         (names_from column.now bytes.now starts.now lens.now present.now s))) }
 {
     if !any_present(column, bytes, starts, lens, present, s) {
-        return Size::Is(0);
+        return Some(0);
     }
     bytes_len(column, bytes, starts, lens, present, s)
 }

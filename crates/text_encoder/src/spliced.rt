@@ -3,7 +3,7 @@ ghost use Rattle.std.specs.Prelude.{◌≡◌, ◌≤◌, length};
 ghost use Rattle.std.proofs.lemmas.List.Edits.{sets};
 ghost use Rattle.encoding.specs.Writer.{column_bytes};
 ghost use Rattle.text.specs.Text.{text_e};
-ghost use Rattle.encoding.specs.Cases.{size_of, fit};
+ghost use Rattle.encoding.specs.Cases.{maybe_of, fit};
 ghost use Rattle.text_encoder.specs.Edits.{new_names, Spliceable};
 
 use crate::sizes::column_len;
@@ -22,7 +22,7 @@ pub(crate) fn spliced_len(
     end: usize,
 ) -> Size
     requires { Spliceable column.now bytes.now starts.now lens.now present.now start end }
-    ensures { size_of result ≡ fit (length (column_bytes text_e
+    ensures { maybe_of result ≡ fit (length (column_bytes text_e
         (new_names column.now bytes.now starts.now lens.now present.now start end))) }
 {
     let s = first(column, bytes, starts, lens, present, start, end);

@@ -13,7 +13,6 @@ ghost use Rattle.text.specs.Given.{name_list};
 ghost use Rattle.text_encoder.specs.Walks.{held_in, HeldBy, old_from, Sound, Onward, DrawnFrom, GivenAs, Rest, At, behind_of, names_from, Pairs};
 
 use encoding::Head;
-use leb128::ParsedU64;
 
 // A reading of the list: absent, or a name by its start and length in the old column or in the given bytes.
 #[derive(Clone, Copy)]
@@ -69,13 +68,13 @@ fn repeat_at(column: &[u8], c: TextCursor, q: usize, times: u64) -> TextCursor
     ensures at_lt_at { c.at < result.at }
 {
     match leb128::leb128_u64(column, q) {
-        ParsedU64::Number(n, start) => TextCursor {
+        Ok((n, start)) => TextCursor {
             at: start + n as usize,
             had: c.had + times,
             left: times,
             sort: TextSort::Repeat(start, n as usize, q),
         },
-        ParsedU64::Refused(_, _) => c,
+        Err(_) => c,
     }
 }
 
@@ -87,20 +86,20 @@ fn entered(column: &[u8], c: TextCursor) -> TextCursor
     ensures at_lt_at { c.at < result.at }
 {
     match run_head::head_at(column, c.at, c.had) {
-        Head::Repeat(times, q) => repeat_at(column, c, q, times),
-        Head::Literal(times, q) => TextCursor {
+        Ok(Head::Repeat(times, q)) => repeat_at(column, c, q, times),
+        Ok(Head::Literal(times, q)) => TextCursor {
             at: q,
             had: c.had + times,
             left: times,
             sort: TextSort::Literal,
         },
-        Head::Absent(times, next) => TextCursor {
+        Ok(Head::Absent(times, next)) => TextCursor {
             at: next,
             had: c.had + times,
             left: times,
             sort: TextSort::Absent,
         },
-        Head::Refused(_, _) => c,
+        Err(_) => c,
     }
 }
 
@@ -158,7 +157,7 @@ fn literal_drawn(column: &[u8], c: TextCursor, most: u64) -> OldPiece
     ensures { DrawnFrom column.now c most result }
 {
     match leb128::leb128_u64(column, c.at) {
-        ParsedU64::Number(n, start) => OldPiece {
+        Ok((n, start)) => OldPiece {
             held: Held::Old(start, n as usize),
             times: 1,
             cursor: TextCursor {
@@ -168,7 +167,7 @@ fn literal_drawn(column: &[u8], c: TextCursor, most: u64) -> OldPiece
                 sort: TextSort::Literal,
             },
         },
-        ParsedU64::Refused(_, _) => OldPiece {
+        Err(_) => OldPiece {
             held: Held::Absent,
             times: 0,
             cursor: c,

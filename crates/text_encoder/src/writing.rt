@@ -14,7 +14,7 @@ use crate::sizes::any_present;
 use crate::stretches::stretch_at;
 use crate::walk::{Held, Splicing, stepped};
 use encoding::StretchEnd;
-use leb128_writer::Written;
+use refusal::Refusal;
 
 // The numbers of a run where there is room for them; each gives the position behind it.
 fn put_number(out: &mut [u8], at: usize, v: u64) -> usize
@@ -22,8 +22,8 @@ fn put_number(out: &mut [u8], at: usize, v: u64) -> usize
     ensures { PutAt out.old out.new at result (u64_bytes v) }
 {
     match leb128_writer::put_u64(v, out, at) {
-        Written::Next(next) => next,
-        Written::Refused(_, place) => place,
+        Ok(next) => next,
+        Err(Refusal(_, place)) => place,
     }
 }
 
@@ -32,8 +32,8 @@ fn put_count(out: &mut [u8], at: usize, c: i64) -> usize
     ensures { PutAt out.old out.new at result (i64_bytes c) }
 {
     match leb128_writer::put_i64(c, out, at) {
-        Written::Next(next) => next,
-        Written::Refused(_, place) => place,
+        Ok(next) => next,
+        Err(Refusal(_, place)) => place,
     }
 }
 

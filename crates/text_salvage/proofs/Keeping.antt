@@ -10,10 +10,9 @@ use Rattle.leb128.specs.Answer.{Answer, done, refused, within}
 use Rattle.encoding.specs.Column.{Reading, value, trace}
 use Rattle.encoding.specs.Given.{Encoded}
 use Rattle.encoding.specs.Slots.{flag_of, decoding, Decoded}
-use Rattle.encoding.specs.Survivors.{survey_of, surviving}
+use Rattle.encoding.specs.Survivors.{survey_of, surviving, Surveyed}
 use Rattle.encoding.specs.Walk.{Trace}
 use Rattle.encoding.specs.Writer.{column_bytes}
-use Rattle.encoding.specs.declared.Survey.{Survey}
 use Rattle.encoding.proofs.Surveying.{survey-readings}
 use Rattle.text.specs.Given.{name_list, names_judged}
 use Rattle.text.specs.Name.{start_of, length_of}
@@ -48,11 +47,11 @@ abbrev Put : List ℕ → List ℕ → List ℕ → List ℕ → List ℕ → Li
 Put s a l p out out' o = Encoded (column_bytes text_e (name_list s a l p)) (names_judged s a l p) out out' o
 
 -- as many readings as survive are all of them
-all-rewritten : (s : List ℕ) (r : Survey) → r ≡ survey_of (trace text_e s) → rewritten_as values.Names s r.readings ≡ fresh s
+all-rewritten : (s : List ℕ) (r : Surveyed) → r ≡ survey_of (trace text_e s) → rewritten_as values.Names s r.readings ≡ fresh s
 unfolding rewritten_as rewritten
 all-rewritten s r e = ap (column_bytes text_e) (all-values (trace text_e s) r e)
 
-module _ (s a l p out : List ℕ) (w : length a ≡ length l) (u : length l ≡ length p) (r : Survey) (e : r ≡ survey_of (trace text_e s)) (m : r.readings ≤ length l) where
+module _ (s a l p out : List ℕ) (w : length a ≡ length l) (u : length l ≡ length p) (r : Surveyed) (e : r ≡ survey_of (trace text_e s)) (m : r.readings ≤ length l) where
   abbrev n : ℕ
   n = r.readings
 
@@ -91,7 +90,7 @@ module _ (s a l p out : List ℕ) (w : length a ≡ length l) (u : length l ≡ 
       rw (b, c) (names-10 (trace text_e s) (fresh s) a l p out h w u r e m x.1)
 
 -- the size that was found
-pub fresh-size : (s : List ℕ) (r : Survey) → r ≡ survey_of (trace text_e s) → {room size : ℕ}
+pub fresh-size : (s : List ℕ) (r : Surveyed) → r ≡ survey_of (trace text_e s) → {room size : ℕ}
     → within 10 room (done (length (rewritten_as values.Names s r.readings))) ≡ done size → (size ≡ length (fresh s)) × (size ≤ room)
 fresh-size s r e {room = room} {size = size} q = size-found room (length (fresh s)) size (rw (all-rewritten s r e) at q)
 

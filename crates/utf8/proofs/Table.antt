@@ -5,18 +5,13 @@ use mathlib.Core.List.{[], ◌∷◌}
 use mathlib.Core.Option.{none, some}
 use mathlib.Core.Bool.{Bool, true, false, ◌&&◌}
 use native.Mathlib.Omega.{arith}
+use Rattle.std.proofs.Common.{rules, tests}
 use lib.Dec.{leb}
-use borrow.Author.Tests.{leb-true, le-leb, lt-leb}
+use borrow.Author.Tests.{leb-true, le-leb}
 use Rattle.utf8.specs.Utf8.{range, among, tail, follow}
 
 pub yes-among : (low high b : ℕ) → low ≤ b → b ≤ high → among (range low high) b ≡ true
 yes-among low high b l h = rw (le-leb low b l, le-leb b high h)
-
-pub under : (low high b : ℕ) → b < low → among (range low high) b ≡ false
-under low high b l = rw (lt-leb low b l)
-
-pub over : (low high b : ℕ) → low ≤ b → high < b → among (range low high) b ≡ false
-over low high b l h = rw (le-leb low b l, lt-leb b high h)
 
 pub among-yes : (low high b : ℕ) → among (range low high) b ≡ true → (low ≤ b) × (b ≤ high)
 among-yes low high b e = go (leb low b) refl (leb b high) refl e
@@ -29,90 +24,44 @@ among-yes low high b e = go (leb low b) refl (leb b high) refl e
 module _ (b : ℕ) where
   pub follow-1 : b ≤ 0x7f → follow b ≡ some []
   unfolding follow
-  follow-1 h = rw (yes-among 0 0x7f b (omega arith) h)
+  follow-1 l = search (rules, tests)
 
   pub follow-2 : 0xc2 ≤ b → b ≤ 0xdf → follow b ≡ some (tail ∷ [])
   unfolding follow
-  follow-2 l h = rw (over 0 0x7f b (omega arith) (omega arith), yes-among 0xc2 0xdf b l h)
+  follow-2 l h = search (rules, tests)
 
   pub follow-e0 : b ≡ 0xe0 → follow b ≡ some (range 0xa0 0xbf ∷ tail ∷ [])
   unfolding follow
-  follow-e0 e = rw e
+  follow-e0 l = search (rules, tests)
 
   pub follow-e1 : 0xe1 ≤ b → b ≤ 0xec → follow b ≡ some (tail ∷ tail ∷ [])
   unfolding follow
-  follow-e1 l h =
-      rw (
-        over 0 0x7f b (omega arith) (omega arith),
-        over 0xc2 0xdf b (omega arith) (omega arith),
-        over 0xe0 0xe0 b (omega arith) (omega arith),
-        yes-among 0xe1 0xec b l h,
-      )
+  follow-e1 l h = search (rules, tests)
 
   pub follow-ed : b ≡ 0xed → follow b ≡ some (range 0x80 0x9f ∷ tail ∷ [])
   unfolding follow
-  follow-ed e = rw e
+  follow-ed l = search (rules, tests)
 
   pub follow-ee : 0xee ≤ b → b ≤ 0xef → follow b ≡ some (tail ∷ tail ∷ [])
   unfolding follow
-  follow-ee l h =
-      rw (
-        over 0 0x7f b (omega arith) (omega arith),
-        over 0xc2 0xdf b (omega arith) (omega arith),
-        over 0xe0 0xe0 b (omega arith) (omega arith),
-        over 0xe1 0xec b (omega arith) (omega arith),
-        over 0xed 0xed b (omega arith) (omega arith),
-        yes-among 0xee 0xef b l h,
-      )
+  follow-ee l h = search (rules, tests)
 
   pub follow-f0 : b ≡ 0xf0 → follow b ≡ some (range 0x90 0xbf ∷ tail ∷ tail ∷ [])
   unfolding follow
-  follow-f0 e = rw e
+  follow-f0 l = search (rules, tests)
 
   pub follow-f1 : 0xf1 ≤ b → b ≤ 0xf3 → follow b ≡ some (tail ∷ tail ∷ tail ∷ [])
   unfolding follow
-  follow-f1 l h =
-      rw (
-        over 0 0x7f b (omega arith) (omega arith),
-        over 0xc2 0xdf b (omega arith) (omega arith),
-        over 0xe0 0xe0 b (omega arith) (omega arith),
-        over 0xe1 0xec b (omega arith) (omega arith),
-        over 0xed 0xed b (omega arith) (omega arith),
-        over 0xee 0xef b (omega arith) (omega arith),
-        over 0xf0 0xf0 b (omega arith) (omega arith),
-        yes-among 0xf1 0xf3 b l h,
-      )
+  follow-f1 l h = search (rules, tests)
 
   pub follow-f4 : b ≡ 0xf4 → follow b ≡ some (range 0x80 0x8f ∷ tail ∷ tail ∷ [])
   unfolding follow
-  follow-f4 e = rw e
+  follow-f4 l = search (rules, tests)
 
   pub follow-80 : 0x80 ≤ b → b < 0xc2 → follow b ≡ none
   unfolding follow
-  follow-80 l h =
-      rw (
-        over 0 0x7f b (omega arith) (omega arith),
-        under 0xc2 0xdf b (omega arith),
-        under 0xe0 0xe0 b (omega arith),
-        under 0xe1 0xec b (omega arith),
-        under 0xed 0xed b (omega arith),
-        under 0xee 0xef b (omega arith),
-        under 0xf0 0xf0 b (omega arith),
-        under 0xf1 0xf3 b (omega arith),
-        under 0xf4 0xf4 b (omega arith),
-      )
+  follow-80 l h = search (rules, tests)
 
   pub follow-f5 : 0xf5 ≤ b → follow b ≡ none
   unfolding follow
-  follow-f5 l =
-      rw (
-        over 0 0x7f b (omega arith) (omega arith),
-        over 0xc2 0xdf b (omega arith) (omega arith),
-        over 0xe0 0xe0 b (omega arith) (omega arith),
-        over 0xe1 0xec b (omega arith) (omega arith),
-        over 0xed 0xed b (omega arith) (omega arith),
-        over 0xee 0xef b (omega arith) (omega arith),
-        over 0xf0 0xf0 b (omega arith) (omega arith),
-        over 0xf1 0xf3 b (omega arith) (omega arith),
-        over 0xf4 0xf4 b (omega arith) (omega arith),
-      )
+  follow-f5 l = search (rules, tests)

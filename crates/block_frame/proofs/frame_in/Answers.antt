@@ -1,9 +1,9 @@
 -- `block_frame::frame_in` meets its contract: one law for each way out. Assumes nothing.
 use mathlib.Core.Path.{sym, ◌∙◌, ap}
 use native.Mathlib.Omega.{arith}
-use lib.ListN.{length, length-set}
+use lib.ListN.{length}
 use Rattle.block_frame.specs.Frame.{Framed, frame_of, frame_out}
-use Rattle.block_frame.proofs.Framing.{before, behind, row_within, frame-length, frame-short, frame-room, frame-eq}
+use Rattle.block_frame.proofs.Framing.{before, behind, rows_are, row_within, frame-length, frame-short, frame-room, frame-eq}
 use Rattle.block_frame.proofs.frame_in.Goals as goal
 
 pub overflow_add-start : goal.overflow_add-start
@@ -17,9 +17,7 @@ overflow_add-end c =
     omega (arith, c.well_formed.0)
 
 pub table_len-requires : goal.table_len-requires
-table_len-requires c =
-    let p = c.requires in
-    (p.few, omega (arith, p.few, p.specs_long), simp length-set (omega (arith, p.few, p.lens_long)))
+table_len-requires c = omega (arith, rows_are c.requires, c.requires.few)
 
 pub overflow_sub-fixed : goal.overflow_sub-fixed
 overflow_sub-fixed c =
@@ -45,13 +43,13 @@ pub returns-then-out-fixed : goal.returns-then-out-fixed
 returns-then-out-fixed c =
     let e = frame-length c.requires c.args.size c.table_len.result c.table_len.ensures.0 in
     let r = frame-short c.requires c.args.size (length c.args.out.now) (omega (arith, c.if-out-fixed.true)) in
-    record { value = c.no_frame.ensures ∙ ap (frame_of c.args.size) (sym r); out_after = ap (λ (z : Framed). frame_out c.args.size z c.args.out.now) (sym r) }
+    record { value = ap (frame_of c.args.size) (sym r); out_after = ap (λ (z : Framed). frame_out c.args.size z c.args.out.now) (sym r) }
 
 pub returns-then-out-fixed-2 : goal.returns-then-out-fixed-2
 returns-then-out-fixed-2 c =
     let e = frame-length c.requires c.args.size c.table_len.result c.table_len.ensures.0 in
     let r = frame-short c.requires c.args.size (length c.args.out.now) (omega (arith, c.if-out-fixed.false, c.if-out-fixed-2.true)) in
-    record { value = c.no_frame-then-out-fixed-2.ensures ∙ ap (frame_of c.args.size) (sym r); out_after = ap (λ (z : Framed). frame_out c.args.size z c.args.out.now) (sym r) }
+    record { value = ap (frame_of c.args.size) (sym r); out_after = ap (λ (z : Framed). frame_out c.args.size z c.args.out.now) (sym r) }
 
 pub slice_bounds-put_around-count : goal.slice_bounds-put_around-count
 slice_bounds-put_around-count c =
@@ -63,8 +61,8 @@ slice_bounds-put_around-start c =
     let w = row_within c.requires in
     omega arith
 
-pub slice_bounds-put_around-end-3 : goal.slice_bounds-put_around-end-3
-slice_bounds-put_around-end-3 c =
+pub slice_bounds-put_around-end : goal.slice_bounds-put_around-end
+slice_bounds-put_around-end c =
     let w = row_within c.requires in
     omega arith
 
@@ -80,12 +78,8 @@ slice_bounds-put_around-start-2 c =
 
 pub put_around-at-requires : goal.put_around-at-requires
 put_around-at-requires c =
-    let table-len = c.table_len in
-    let if1 = c.if-out-fixed in
-    let if2 = c.if-out-fixed-2 in
-    let e = frame-length c.requires c.args.size table-len.result table-len.ensures.0 in
-    let p = c.requires in
-    record { n_in_bounds = (omega (arith, p.few, p.specs_long), simp length-set (omega (arith, p.few, p.lens_long))); later_in_bounds = omega (arith, if1.false, if2.false) }
+    let e = frame-length c.requires c.args.size c.table_len.result c.table_len.ensures.0 in
+    omega (arith, c.if-out-fixed.false, c.if-out-fixed-2.false)
 
 pub overflow_add-result : goal.overflow_add-result
 overflow_add-result c =

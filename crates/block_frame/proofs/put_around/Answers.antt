@@ -5,4 +5,4 @@ use Rattle.block_frame.proofs.put_around.Goals as goal
 pub returns : goal.returns
 returns c =
     let put-head = c.put_head-at in
-    put-apart c.args.size put-head.ensures c.put_bytes.ensures c.requires.later_in_bounds
+    put-apart c.args.size put-head.ensures c.put_bytes.ensures c.requires

@@ -1,73 +1,43 @@
--- `block_frame::put_rows` meets its contract: the rows from i on owe at the position what all owe at the start. Assumes nothing.
-use mathlib.Core.Path.{refl, sym, ◌∙◌, ap}
+-- `block_frame::put_rows` meets its contract: the rows from here on owe at the position what all owe at the start. Assumes nothing.
+use Prim.Native.Nat.{◌+◌}
+use mathlib.Core.Path.{◌≡◌, sym, ◌∙◌, ap}
+use mathlib.Core.List.{[], ◌∷◌, ◌++◌}
 use native.Mathlib.Omega.{arith}
-use lib.ListN.{length}
+use borrow.Author.Rules.{rules}
+use lib.ListN.{length, length-append}
+use Rattle.std.proofs.lemmas.Slice.Zip.{zip_turn, zip_end}
 use Rattle.encoding.proofs.Putting.{put_two, put-part, put-done}
 use Rattle.block_frame.proofs.Storing.{rows_next, rows-length, rows-over}
 use Rattle.block_frame.proofs.put_rows.Goals as goal
 
-pub loop-i-init : goal.loop-i-init
-loop-i-init c = (omega arith, refl, refl, refl)
-
-pub offset_bounds-specs-i : goal.offset_bounds-specs-i
-offset_bounds-specs-i c = omega (arith, c.requires, c.well_formed)
-
-pub bounds-specs-i : goal.bounds-specs-i
-bounds-specs-i c = omega arith
-
-pub overflow_cast-specs : goal.overflow_cast-specs
-overflow_cast-specs c = omega (arith, c.shared_slice_known-in-loop-i-1.given c.loop-i.i)
-
 pub put_number-p-requires : goal.put_number-p-requires
 put_number-p-requires c =
-    let loop = c.loop-i in
-    let h = c.loop-i.invariant in
-    let e = rows-length c.args.specs.now c.args.lens.now c.args.n loop.i c.requires.n_in_bounds.0 c.requires.n_in_bounds.1
-    c.loop-i-test.true in
-    omega (arith, c.requires.lens_in_bounds)
+    let t = zip_turn c.args.specs.now c.args.lens.now c.loop-spec.yielded _ _ c.next.new.self _ (search rules) (search rules) c.loop-spec.yielded_by _ c.in-Some.is c.next.ensures.steps in
+    omega (arith, c.loop-spec.invariant, rows-length c.args.specs.now c.args.lens.now (length c.loop-spec.yielded) t.0 t.1 (c.from.ensures ∙ t.2 0) (t.3 0), c.requires)
 
-pub offset_bounds-lens-i : goal.offset_bounds-lens-i
-offset_bounds-lens-i c =
-    omega (arith, c.requires, c.well_formed)
+pub put_number-p-requires-in-loop-spec : goal.put_number-p-requires-in-loop-spec
+put_number-p-requires-in-loop-spec c =
+    let t = zip_turn c.args.specs.now c.args.lens.now c.loop-spec.yielded _ _ c.next.new.self _ (search rules) (search rules) c.loop-spec.yielded_by _ c.in-Some.is c.next.ensures.steps in
+    omega (arith, c.loop-spec.invariant, rows-length c.args.specs.now c.args.lens.now (length c.loop-spec.yielded) t.0 t.1 (c.from.ensures ∙ t.2 0) (t.3 0), c.requires, c.put_number-p.ensures.after, c.put_number-p.auto.out)
 
-pub bounds-lens-i : goal.bounds-lens-i
-bounds-lens-i c = omega arith
-
-pub put_number-p-requires-in-loop-i : goal.put_number-p-requires-in-loop-i
-put_number-p-requires-in-loop-i c =
-    let loop = c.loop-i in
-    let loop-test = c.loop-i-test in
-    let put-number = c.put_number-p in
-    let h = c.loop-i.invariant in
-    let u = c.put_number-p.ensures.after in
-    let e = rows-length c.args.specs.now c.args.lens.now c.args.n loop.i c.requires.n_in_bounds.0 c.requires.n_in_bounds.1 loop-test.true in
-    omega (arith, c.requires.lens_in_bounds, put-number.auto.out)
-
-pub overflow_add-i : goal.overflow_add-i
-overflow_add-i c = omega arith
-
-pub loop-i-smaller : goal.loop-i-smaller
-loop-i-smaller c = omega arith
-
-pub loop-i-preserved : goal.loop-i-preserved
-loop-i-preserved c =
-    let put-number = c.put_number-p in
-    let put-number2 = c.put_number-p-in-loop-i in
-    let i = c.loop-i.i in
-    let h = c.loop-i.invariant in
-    let t = c.loop-i-test.true in
-    let u = put_two put-number.ensures put-number2.ensures in
+pub loop-spec-preserved : goal.loop-spec-preserved
+loop-spec-preserved c =
+    let l = c.loop-spec in
+    let h = l.invariant in
+    let n = length l.yielded in
+    let t = zip_turn c.args.specs.now c.args.lens.now c.loop-spec.yielded _ _ c.next.new.self _ (search rules) (search rules) c.loop-spec.yielded_by _ c.in-Some.is c.next.ensures.steps in
+    let long : length (l.yielded ++ (c.in-Some.spec, c.in-Some.len) ∷ []) ≡ n + 1 = length-append l.yielded _ in
+    let u = put_two c.put_number-p.ensures c.put_number-p-in-loop-spec.ensures in
     let u₁ = c.put_number-p.ensures.after in
-    let u₂ = c.put_number-p-in-loop-i.ensures.after in
-    let e = rows-length c.args.specs.now c.args.lens.now c.args.n i c.requires.n_in_bounds.0 c.requires.n_in_bounds.1 t in
-    let r = rows_next c.args.specs.now c.args.lens.now c.args.n i c.requires.n_in_bounds.0 c.requires.n_in_bounds.1 t in
-    (omega arith, put-number2.auto.out ∙ put-number.auto.out ∙ h.1, omega arith, h.3 ∙ put-part _ _ r u)
-
-pub shape_of-out : goal.shape_of-out
-shape_of-out c = c.loop-i.invariant.1
+    let u₂ = c.put_number-p-in-loop-spec.ensures.after in
+    let e = rows-length c.args.specs.now c.args.lens.now (length c.loop-spec.yielded) t.0 t.1 (c.from.ensures ∙ t.2 0) (t.3 0) in
+    let r = rows_next c.args.specs.now c.args.lens.now n t.0 t.1 (c.from.ensures ∙ t.2 0) (t.3 0) in
+    rw long (c.put_number-p-in-loop-spec.auto.out ∙ c.put_number-p.auto.out ∙ h.0, omega (arith, h.1), h.2 ∙ put-part _ _ r u)
 
 pub returns : goal.returns
 returns c =
-    let h = c.loop-i.invariant in
-    let e = rows-over c.args.specs.now c.args.lens.now c.args.n c.loop-i.i (omega arith) in
-    record { after = omega (arith, ap length e); bytes = sym (h.3 ∙ put-done _ _ _ e) }
+    let l = c.loop-spec in
+    let h = l.invariant in
+    let t = zip_end c.args.specs.now c.args.lens.now c.loop-spec.yielded _ _ c.next.new.self _ (search rules) (search rules) c.loop-spec.yielded_by c.in-None.is c.next.ensures.steps in
+    let e = rows-over c.args.specs.now c.args.lens.now (length l.yielded) t in
+    record { after = omega (arith, h.1, ap length e); bytes = sym (h.2 ∙ put-done _ _ _ e) }

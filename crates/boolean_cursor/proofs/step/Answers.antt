@@ -1,10 +1,11 @@
--- `boolean_cursor::step` meets its contract: 24; or what is ready from each state that is entered is what is ready from the first. Assumes nothing.
-use mathlib.Core.Path.{refl, sym, ◌∙◌}
+-- `boolean_cursor::step` meets its contract: 24; or what is ready from the state. Assumes nothing.
+use mathlib.Core.Path.{sym, ◌∙◌, ap}
 use native.Mathlib.Omega.{arith}
+use Rattle.std.specs.Prelude.{Ok}
 use Rattle.encoding.proofs.Via.{via}
 use Rattle.cursor.specs.Kept.{leaves}
 use Rattle.cursor.specs.Steps.{said}
-use Rattle.boolean_cursor.proofs.TurnCursors.{enter-falls, ready-left, ready-into}
+use Rattle.boolean_cursor.proofs.TurnCursors.{ready-left-some}
 use Rattle.boolean_cursor.specs.Cases.{next_of}
 use Rattle.boolean_cursor.proofs.Outs.{step_other, step-beyond, step-ready}
 use Rattle.boolean_cursor.proofs.step.Goals as goal
@@ -15,37 +16,20 @@ returns-then-cursor-column c = sym (step_other _ c.args.cursor c.if-cursor-colum
 pub returns-then-column-cursor : goal.returns-then-column-cursor
 returns-then-column-cursor c = sym (step-beyond _ c.args.cursor c.if-column-cursor.true)
 
--- inside a run
-pub returns-then-cursor-gt0 : goal.returns-then-cursor-gt0
-returns-then-cursor-gt0 c =
-    let a = c.args.cursor in
-    c.one_of.ensures ∙ sym (step-ready _ a (omega arith) c.if-column-cursor.false (ready-left _ _ c.if-cursor-gt0.true))
+pub one_of-requires : goal.one_of-requires
+one_of-requires c = ready-left-some _ _ _ (via next_of c.ready_at.ensures (c.in-Ok-Some.is ∙ ap Ok c.in-Ok-Some.field-0-is))
 
-pub loop-c-init : goal.loop-c-init
-loop-c-init c = refl
+pub returns-in-Ok-Some : goal.returns-in-Ok-Some
+returns-in-Ok-Some c =
+    let e = via next_of c.ready_at.ensures (c.in-Ok-Some.is ∙ ap Ok c.in-Ok-Some.field-0-is) in
+    c.one_of.ensures ∙ sym (step-ready _ c.args.cursor (omega arith) c.if-column-cursor.false e)
 
-pub loop-c-smaller : goal.loop-c-smaller
-loop-c-smaller c = enter-falls _ _ _ _ _ (via next_of c.entered_at.ensures c.in-On.is)
-
-pub loop-c-preserved : goal.loop-c-preserved
-loop-c-preserved c = c.loop-c.invariant ∙ ready-into _ _ _ c.loop-c-test.true (via next_of c.entered_at.ensures c.in-On.is)
-
-pub returns-in-Over : goal.returns-in-Over
+pub returns-in-Ok-None : goal.returns-in-Ok-None
 unfolding leaves said
-returns-in-Over c =
-    let a = c.args.cursor in
-    let r = c.loop-c.invariant ∙ ready-into _ _ _ c.loop-c-test.true (via next_of c.entered_at.ensures c.in-Over.is) in
-    sym (step-ready _ a (omega arith) c.if-column-cursor.false r)
+returns-in-Ok-None c =
+    let e = via next_of c.ready_at.ensures (c.in-Ok-None.is ∙ ap Ok c.in-Ok-None.field-0-is) in
+    sym (step-ready _ c.args.cursor (omega arith) c.if-column-cursor.false e)
 
-pub returns-in-Off : goal.returns-in-Off
+pub returns-in-Err : goal.returns-in-Err
 unfolding leaves said
-returns-in-Off c =
-    let a = c.args.cursor in
-    let r = c.loop-c.invariant ∙ ready-into _ _ _ c.loop-c-test.true (via next_of c.entered_at.ensures c.in-Off.is) in
-    sym (step-ready _ a (omega arith) c.if-column-cursor.false r)
-
-pub returns : goal.returns
-returns c =
-    let a = c.args.cursor in
-    let n = c.loop-c-test.false in
-    c.one_of-2.ensures ∙ sym (step-ready _ a (omega arith) c.if-column-cursor.false (c.loop-c.invariant ∙ ready-left _ _ (omega arith)))
+returns-in-Err c = sym (step-ready _ c.args.cursor (omega arith) c.if-column-cursor.false (via next_of c.ready_at.ensures c.in-Err.is))

@@ -1,10 +1,11 @@
--- `boolean_decoder::count` meets its contract: no fault has the number 0, so the survey's number says how the column ends. Assumes nothing.
-use Rattle.encoding.proofs.Surveying.{survey-sound, survey-fault}
+-- `boolean_decoder::count` meets its contract: no fault has the number 0, so the survey's fault says how the column ends. Assumes nothing.
+use Rattle.encoding.proofs.Surveying.{survey-none, survey-some}
+use Rattle.boolean_decoder.specs.Turns.{bool_trace}
 use Rattle.boolean_decoder.proofs.Faults.{boolean-numbered}
 use Rattle.boolean_decoder.proofs.count.Goals as goal
 
-pub returns-then-found-eq0 : goal.returns-then-found-eq0
-returns-then-found-eq0 c = survey-sound _ _ c.survey-found.ensures (boolean-numbered _) c.if-found-eq0.true
+pub returns-in-None : goal.returns-in-None
+returns-in-None c = survey-none (bool_trace _) _ c.survey-found.ensures (boolean-numbered _) c.in-None.is
 
-pub returns : goal.returns
-returns c = survey-fault _ _ c.survey-found.ensures c.if-found-eq0.false
+pub returns-in-Some : goal.returns-in-Some
+returns-in-Some c = survey-some (bool_trace _) _ c.survey-found.ensures _ c.in-Some.is

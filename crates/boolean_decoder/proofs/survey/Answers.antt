@@ -17,20 +17,20 @@ pub loop-at-smaller : goal.loop-at-smaller
 loop-at-smaller c =
     let loop-test = c.loop-at-test in
     let turn_at = c.turn_at in
-    let h = turned _ _ _ (via step_of turn_at.ensures c.in-On.is) in
+    let h = turned _ _ _ (via step_of turn_at.ensures c.in-Ok.is) in
     omega (arith, h.ahead, loop-test.true)
 
 pub loop-at-preserved : goal.loop-at-preserved
 loop-at-preserved c =
-    let e = via step_of c.turn_at.ensures c.in-On.is in
+    let e = via step_of c.turn_at.ensures c.in-Ok.is in
     let h = turned _ _ _ e in
     (h.capped, omega (arith, h.other), c.loop-at.invariant.2 ∙ surveys-on (turns _) _ _ e)
 
-pub returns-in-Off : goal.returns-in-Off
-returns-in-Off c =
+pub returns-in-Err : goal.returns-in-Err
+returns-in-Err c =
     let loop = c.loop-at in
     let turn_at = c.turn_at in
-    sym (surveys-trace _ ∙ loop.invariant.2 ∙ surveys-cut _ _ _ _ (via step_of turn_at.ensures c.in-Off.is))
+    sym (surveys-trace _ ∙ loop.invariant.2 ∙ surveys-cut _ _ _ _ (via step_of turn_at.ensures c.in-Err.is))
 
 pub returns : goal.returns
 returns c = sym (surveys-trace _ ∙ c.loop-at.invariant.2 ∙ surveys-end _ _ c.loop-at-test.false)

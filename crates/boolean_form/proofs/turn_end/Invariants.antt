@@ -4,8 +4,8 @@ use lib.ListN.{length}
 use Rattle.boolean_form.proofs.Ahead.{Looked}
 use Rattle.boolean_form.proofs.turn_end.Given as goal
 
-abbrev pub invariant-loop-p : goal.invariant-loop-p
-invariant-loop-p l = Looked l.s l.at l.had l.flag l.p l.k l.f
+abbrev pub invariant-loop-c : goal.invariant-loop-c
+invariant-loop-c l = Looked l.s l.at l.had l.flag l.p l.k l.f
 
-abbrev pub decreases-loop-p : goal.decreases-loop-p
-decreases-loop-p l = length l.s - l.p
+abbrev pub decreases-loop-c : goal.decreases-loop-c
+decreases-loop-c l = length l.s - l.p

@@ -10,19 +10,17 @@ load_u8-requires c =
 
 pub finish_u8-requires : goal.finish_u8-requires
 finish_u8-requires c =
-    let splice-u8 = c.splice_u8 in
     let end-in = c.end_in in
     let load-u8 = c.load_u8 in
     let a = c.args in
     let r = c.requires.ready in
-    let g = boolean-good a.new.now a.values.now r c.requires.value load-u8.ensures load-u8.auto.values end-in.ensures splice-u8.ensures.s_after in
-    record { has_row = r.located.row; len_in_bounds = omega (arith, r.new_fits, load-u8.auto, splice-u8.auto); good = g }
+    let g = boolean-good a.new.now a.values.now r c.requires.value load-u8.ensures load-u8.auto.values end-in.ensures c.splice.ensures.s_after in
+    record { has_row = r.located.row; len_in_bounds = omega (arith, r.new_fits, load-u8.auto, c.splice.auto); good = g }
 
 pub returns : goal.returns
 returns c =
-    let splice-u8 = c.splice_u8 in
     let end-in = c.end_in in
     let load-u8 = c.load_u8 in
     let a = c.args in
-    boolean-done a.new.now a.values.now c.requires.ready c.requires.value load-u8.ensures load-u8.auto.values end-in.ensures splice-u8.ensures.s_after
+    boolean-done a.new.now a.values.now c.requires.ready c.requires.value load-u8.ensures load-u8.auto.values end-in.ensures c.splice.ensures.s_after
     c.finish_u8.ensures

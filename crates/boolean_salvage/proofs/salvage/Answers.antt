@@ -1,6 +1,7 @@
 -- `boolean_salvage::salvage` meets its contract: each way out is a case of its definition. Assumes nothing.
 use native.Mathlib.Omega.{arith}
 use borrow.Author.Tests.{eq-eqb, ne_eqb}
+use Rattle.std.proofs.lemmas.Result.{err_from_is_err_and}
 use Rattle.encoding.specs.Cases.{answer_of}
 use Rattle.encoding.proofs.Via.{via}
 use Rattle.boolean_decoder.specs.Turns.{bool_trace}
@@ -24,20 +25,21 @@ returns-then-values-found c =
 pub save-requires : goal.save-requires
 save-requires c =
     let s = c.args.s.now in
-    let k = fresh-size s (via answer_of c.rewritten_turns_len.ensures c.in-Done.is) in
+    let k = fresh-size s (via answer_of c.rewritten_turns_len.ensures c.in_ok-size.was) in
     let l = c.if-values-found.false in
     record { found_value = (c.survey-found.ensures, omega (arith, l)); size_value = k }
 
-pub returns-in-Done : goal.returns-in-Done
-returns-in-Done c =
+pub returns : goal.returns
+returns c =
     let a = c.args in
     let if1 = c.if-typ-ne4 in
     save-served (eq-eqb a.typ 4 if1.false) c.save.ensures
 
-pub returns-in-Refused : goal.returns-in-Refused
-returns-in-Refused c =
+pub returns-in_err-size : goal.returns-in_err-size
+returns-in_err-size c =
     let a = c.args in
+    let p = err_from_is_err_and c.from_residual.result c.from_residual.ensures.1 in
     let h = eq-eqb a.typ 4 c.if-typ-ne4.false in
     let l = c.if-values-found.false in
-    let q = via answer_of c.rewritten_turns_len.ensures c.in-Refused.is in
-    save-short a.s.now a.values.now a.out.now _ c.survey-found.ensures (omega (arith, l)) h q
+    let q = via answer_of c.rewritten_turns_len.ensures c.in_err-size.was in
+    rw (p.1, p.2) (save-short a.s.now a.values.now a.out.now _ c.survey-found.ensures (omega (arith, l)) h q)

@@ -1,6 +1,5 @@
 -- `column_form::column_form` meets its contract: the form by the kind that the type has, or 17. Assumes nothing.
 use mathlib.Core.Path.{◌∙◌}
-use borrow.Author.Tests.{eqb-true}
 use Rattle.column_form.proofs.Types.{of-actors, of_integers, of_deltas, of_booleans, of_names, of_others}
 use Rattle.column_form.proofs.column_form.Goals as goal
 use Rattle.column_form.proofs.column_form.Goals.{then-typ-eq1-via-then-typ-eq1, then-typ-eq1-via-else-typ-eq1+then-typ-eq2}

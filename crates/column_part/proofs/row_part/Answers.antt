@@ -5,5 +5,6 @@ use Rattle.column_part.proofs.row_part.Goals as goal
 pub returns : goal.returns
 returns c =
     let p = c.requires in
-    let a = c.args in
-    rw (p.3, get_or-take a.table.rows a.table.lens a.i 0 p.0, get_or-take a.table.rows a.table.specs a.i 0 p.0)
+    let t = c.args.o.now.table in
+    let i = c.args.i in
+    rw (p.3, get_or-take t.rows t.lens i 0 p.0, get_or-take t.rows t.specs i 0 p.0)

@@ -1,39 +1,25 @@
 -- `corrections::locate` meets its contract: one law for each way out. Assumes nothing.
-use Rattle.corrections.proofs.Layers.{over-refused, over-refused-first, over-corrected, over-scanned, over-neither}
+use Rattle.std.proofs.lemmas.Result.{err_from_is_err_and}
+use Rattle.corrections.proofs.Layers.{over-refused, over-refused-first, over-corrected, over-first}
 use Rattle.corrections.proofs.locate.Goals as goal
 
-pub returns-then-c-ne0 : goal.returns-then-c-ne0
-returns-then-c-ne0 c =
-    let a = c.args in
-    over-refused a.corrections.now a.first.now a.spec c.locate_spec-c.ensures c.if-c-ne0.true
+pub returns-in_err-c : goal.returns-in_err-c
+returns-in_err-c c =
+    let p = err_from_is_err_and c.from_residual.result c.from_residual.ensures.1 in
+    rw (p.1, p.2) (over-refused _ _ _ c.locate_spec.result c.map_err.result c.locate_spec.ensures.row c.map_err.ensures.cases c.in_err-c.was)
 
-pub returns-then-f-ne0 : goal.returns-then-f-ne0
-returns-then-f-ne0 c =
-    let a = c.args in
-    let in-corrections = c.locate_spec-c.ensures in
-    let in-first = c.locate_spec-f.ensures in
-    over-refused-first a.corrections.now a.first.now a.spec in-corrections in-first c.if-c-ne0.false c.if-f-ne0.true
+pub returns-in_err-f : goal.returns-in_err-f
+returns-in_err-f c =
+    let p = err_from_is_err_and c.from_residual-in_err-f.result c.from_residual-in_err-f.ensures.1 in
+    rw (p.1, p.2) (over-refused-first _ _ _ c.locate_spec.result c.map_err.result c.locate_spec.ensures.row c.map_err.ensures.cases c.locate_spec-2.result c.map_err-2.result c.locate_spec-2.ensures.row c.map_err-2.ensures.cases
+    c.in_ok-c.was c.in_err-f.was)
 
-pub returns-then-c-ne0-2 : goal.returns-then-c-ne0-2
-returns-then-c-ne0-2 c =
-    let a = c.args in
-    let in-corrections = c.locate_spec-c.ensures in
-    let in-first = c.locate_spec-f.ensures in
-    over-corrected a.corrections.now a.first.now a.spec in-corrections in-first c.if-c-ne0.false
-    c.if-f-ne0.false c.if-c-ne0-2.true
+pub returns-in-Some : goal.returns-in-Some
+returns-in-Some c =
+    over-corrected _ _ _ c.locate_spec.result c.map_err.result c.locate_spec.ensures.row c.map_err.ensures.cases c.locate_spec-2.result c.map_err-2.result c.locate_spec-2.ensures.row c.map_err-2.ensures.cases
+    c.in_ok-c.was c.in_ok-f.was c.in-Some.is
 
-pub returns-then-f-eq0 : goal.returns-then-f-eq0
-returns-then-f-eq0 c =
-    let a = c.args in
-    let in-corrections = c.locate_spec-c.ensures in
-    let in-first = c.locate_spec-f.ensures in
-    over-neither a.corrections.now a.first.now a.spec in-corrections in-first
-    c.if-c-ne0.false c.if-f-ne0.false c.if-c-ne0-2.false c.if-f-eq0.true
-
-pub returns : goal.returns
-returns c =
-    let a = c.args in
-    let in-corrections = c.locate_spec-c.ensures in
-    let in-first = c.locate_spec-f.ensures in
-    over-scanned a.corrections.now a.first.now a.spec in-corrections in-first
-    c.if-c-ne0.false c.if-f-ne0.false c.if-c-ne0-2.false c.if-f-eq0.false
+pub returns-in-None : goal.returns-in-None
+returns-in-None c =
+    over-first _ _ _ c.locate_spec.result c.map_err.result c.locate_spec.ensures.row c.map_err.ensures.cases c.locate_spec-2.result c.map_err-2.result c.locate_spec-2.ensures.row c.map_err-2.ensures.cases
+    c.in_ok-c.was c.in_ok-f.was c.in-None.is c.map.result c.map.ensures.cases

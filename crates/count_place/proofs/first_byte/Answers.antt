@@ -3,18 +3,12 @@ use mathlib.Core.Path.{◌≡◌}
 use Prim.Native.Nat.{◌%◌}
 use native.Mathlib.Omega.{arith}
 use Rattle.leb128.specs.Write.{group}
-use Rattle.leb128.proofs.Encoded.{group-lt}
 use Rattle.count_place.proofs.Placing.{first-last, first_more}
 use Rattle.count_place.proofs.first_byte.Goals as goal
 use Rattle.count_place.proofs.first_byte.Goals.{else-neg, then-neg}
 
 seven-After-row_known-1 : (c : goal.After-row_known-1) → c.if-neg.group ≡ group c.args.neg (c.args.v % 128)
 seven-After-row_known-1 c = (elim c.if-neg.branch [ then-neg w ↦ rw w.if-neg.true w.group-is | else-neg w ↦ rw w.if-neg.false w.group-is ])
-
-pub overflow_add-result : goal.overflow_add-result
-overflow_add-result c =
-    let a = c.args in
-    omega (arith, seven-After-row_known-1 c, group-lt a.neg (a.v % 128) (omega arith))
 
 seven-Then-v-limit : (c : goal.Then-v-limit) → c.if-neg.group ≡ group c.args.neg (c.args.v % 128)
 seven-Then-v-limit c = (elim c.if-neg.branch [ then-neg w ↦ rw w.if-neg.true w.group-is | else-neg w ↦ rw w.if-neg.false w.group-is ])

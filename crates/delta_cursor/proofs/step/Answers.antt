@@ -1,6 +1,7 @@
 -- `delta_cursor::step` meets its contract: 24; or what is ready from each state that is entered is what is ready from the first. Assumes nothing.
-use mathlib.Core.Path.{refl, sym, ◌∙◌}
+use mathlib.Core.Path.{refl, sym, ◌∙◌, ap}
 use native.Mathlib.Omega.{arith}
+use Rattle.std.specs.Prelude.{Ok}
 use Rattle.encoding.proofs.Via.{via}
 use Rattle.cursor.specs.Kept.{leaves}
 use Rattle.cursor.specs.Steps.{said}
@@ -22,23 +23,23 @@ pub loop-c-init : goal.loop-c-init
 loop-c-init c = refl
 
 pub loop-c-smaller : goal.loop-c-smaller
-loop-c-smaller c = enter-falls i64_e i64-laws _ _ _ _ (via next_of c.entered_at.ensures c.in-On.is)
+loop-c-smaller c = enter-falls i64_e i64-laws _ _ _ _ (via next_of c.entered_at.ensures (c.in-Ok-Some.is ∙ ap Ok c.in-Ok-Some.field-0-is))
 
 pub loop-c-preserved : goal.loop-c-preserved
-loop-c-preserved c = c.loop-c.invariant ∙ ready-into i64_e i64-laws _ _ _ c.loop-c-test.true (via next_of c.entered_at.ensures c.in-On.is)
+loop-c-preserved c = c.loop-c.invariant ∙ ready-into i64_e i64-laws _ _ _ c.loop-c-test.true (via next_of c.entered_at.ensures (c.in-Ok-Some.is ∙ ap Ok c.in-Ok-Some.field-0-is))
 
-pub returns-in-Over : goal.returns-in-Over
+pub returns-in-Ok-None : goal.returns-in-Ok-None
 unfolding add_step leaves said
-returns-in-Over c =
+returns-in-Ok-None c =
     let a = c.args.cursor in
-    let r = c.loop-c.invariant ∙ ready-into i64_e i64-laws _ _ _ c.loop-c-test.true (via next_of c.entered_at.ensures c.in-Over.is) in
+    let r = c.loop-c.invariant ∙ ready-into i64_e i64-laws _ _ _ c.loop-c-test.true (via next_of c.entered_at.ensures (c.in-Ok-None.is ∙ ap Ok c.in-Ok-None.field-0-is)) in
     sym (step-ready _ a (omega arith) c.if-column-cursor.false c.within-c.ensures r)
 
-pub returns-in-Off : goal.returns-in-Off
+pub returns-in-Err : goal.returns-in-Err
 unfolding add_step leaves said
-returns-in-Off c =
+returns-in-Err c =
     let a = c.args.cursor in
-    let r = c.loop-c.invariant ∙ ready-into i64_e i64-laws _ _ _ c.loop-c-test.true (via next_of c.entered_at.ensures c.in-Off.is) in
+    let r = c.loop-c.invariant ∙ ready-into i64_e i64-laws _ _ _ c.loop-c-test.true (via next_of c.entered_at.ensures c.in-Err.is) in
     sym (step-ready _ a (omega arith) c.if-column-cursor.false c.within-c.ensures r)
 
 pub returns : goal.returns

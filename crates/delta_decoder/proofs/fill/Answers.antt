@@ -3,6 +3,7 @@ use Prim.Native.Nat.{◌^◌}
 use mathlib.Core.Path.{refl}
 use lib.IntN.{pos}
 use borrow.Author.Rules.{rules}
+use Rattle.std.proofs.lemmas.Result.{err_from_is_err_and}
 use Rattle.encoding.specs.Slots.{slot_of, flag_of}
 use Rattle.encoding.proofs.Via.{via}
 use Rattle.encoding.proofs.Walking.{next-eq, readings-eq}
@@ -21,19 +22,20 @@ fill_run-requires c =
     record { at_in_bounds = search rules; room = owed-room (deltas _) (slot_of (pos 0)) flag_of (sofar 0 0 (2 ^ 63)) refl _ _ _ _ _ o; table_value = c.short_numbers-table.ensures }
 
 pub loop-at-smaller : goal.loop-at-smaller
-loop-at-smaller c = (deltas _).falls _ _ (via step_of c.fill_run.ensures.result_value c.in-On.is)
+loop-at-smaller c = (deltas _).falls _ _ (via step_of c.fill_run.ensures.result_value c.in_ok-next.was)
 
 pub loop-at-preserved : goal.loop-at-preserved
 loop-at-preserved c =
     let o = c.loop-at.invariant in
     let w = c.fill_run.ensures in
-    owed-on (deltas _) (slot_of (pos 0)) flag_of (sofar 0 0 (2 ^ 63)) refl _ _ _ _ _ o _ _ _ w.wrote (via step_of w.result_value c.in-On.is)
+    owed-on (deltas _) (slot_of (pos 0)) flag_of (sofar 0 0 (2 ^ 63)) refl _ _ _ _ _ o _ _ _ w.wrote (via step_of w.result_value c.in_ok-next.was)
 
-pub returns-in-Off : goal.returns-in-Off
-returns-in-Off c =
+pub returns-in_err-next : goal.returns-in_err-next
+returns-in_err-next c =
     let o = c.loop-at.invariant in
     let w = c.fill_run.ensures in
-    rw delta-rest (let both : _ × _ = owed-off (deltas _) (slot_of (pos 0)) flag_of (sofar 0 0 (2 ^ 63)) refl _ _ _ _ _ o _ _ _ _ w.wrote (via step_of w.result_value c.in-Off.is) in record { result_value = both.0; wrote = both.1 })
+    let p = err_from_is_err_and c.from_residual.result c.from_residual.ensures.1 in
+    rw delta-rest (let both : _ × _ = owed-off (deltas _) (slot_of (pos 0)) flag_of (sofar 0 0 (2 ^ 63)) refl _ _ _ _ _ o _ _ _ _ w.wrote (via step_of w.result_value c.in_err-next.was) in record { result_value = rw (p.1, p.2) both.0; wrote = both.1 })
 
 pub shape_of-values : goal.shape_of-values
 shape_of-values c = c.loop-at.invariant.same-v

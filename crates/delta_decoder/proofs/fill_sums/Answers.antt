@@ -7,7 +7,7 @@ use mir.ValLaws.{to_z-of_z}
 use borrow.Author.Rules.{rules}
 use Rattle.encoding.specs.Column.{present, repeated}
 use Rattle.encoding.proofs.Via.{via}
-use Rattle.delta_decoder.specs.Cases.{sum_is}
+use Rattle.encoding.specs.Cases.{maybe_of}
 use Rattle.encoding.proofs.Running.{partly-start, partly-room, partly-on, partly-end}
 use Rattle.delta_decoder.proofs.Summing.{replicate-first, replicate-none, summing_on, summing-out, summing-end}
 use Rattle.delta_decoder.proofs.fill_sums.Goals as goal
@@ -20,7 +20,7 @@ pub bounds-values-i : goal.bounds-values-i
 bounds-values-i c =
     let same = to_z-of_z w64 c.args.d c.ranges.d in
     let o = rw same at c.loop-left.invariant in
-    let t = rw same at (via sum_is c.add.ensures c.in-Is.is) in
+    let t = rw same at (via maybe_of c.add.ensures c.in-Some.is) in
     let e = replicate-first _ (present c.args.d c.args.q) _ c.loop-left-test.true in
     partly-room o (summing_on _ e _ t)
 
@@ -40,23 +40,17 @@ pub loop-left-preserved : goal.loop-left-preserved
 loop-left-preserved c =
     let same = to_z-of_z w64 c.args.d c.ranges.d in
     let o = rw same at c.loop-left.invariant in
-    let t = rw same at (via sum_is c.add.ensures c.in-Is.is) in
+    let t = rw same at (via maybe_of c.add.ensures c.in-Some.is) in
     let e = replicate-first _ (present c.args.d c.args.q) _ c.loop-left-test.true in
     let g : SFits w64 c.sum_of.result = search rules in
     rw (same, to_z-of_z w64 c.sum_of.result g ∙ c.sum_of.ensures)
     (partly-on o (summing_on _ e _ t))
 
-pub shape_of-values-in-Outside : goal.shape_of-values-in-Outside
-shape_of-values-in-Outside c = c.loop-left.invariant.same-v
-
-pub shape_of-present-in-Outside : goal.shape_of-present-in-Outside
-shape_of-present-in-Outside c = c.loop-left.invariant.same-p
-
-pub returns-in-Outside : goal.returns-in-Outside
-returns-in-Outside c =
+pub returns-in_default : goal.returns-in_default
+returns-in_default c =
     let same = to_z-of_z w64 c.args.d c.ranges.d in
     let o = rw same at c.loop-left.invariant in
-    let t = rw same at (via sum_is c.add.ensures c.in-Outside.is) in
+    let t = rw same at (via maybe_of c.add.ensures c.in_default.is) in
     let e = replicate-first _ (present c.args.d c.args.q) _ c.loop-left-test.true in
     let both : _ × _ = partly-end o (summing-out _ e t) in record { result_value = both.0; wrote = both.1 }
 

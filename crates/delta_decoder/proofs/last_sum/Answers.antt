@@ -18,16 +18,16 @@ pub scan_run-requires : goal.scan_run-requires
 scan_run-requires c = record { at_in_bounds = search rules; table_value = c.short_numbers-table.ensures }
 
 pub loop-at-smaller : goal.loop-at-smaller
-loop-at-smaller c = (deltas _).falls _ _ (via step_of c.scan_run.ensures c.in-On.is)
+loop-at-smaller c = (deltas _).falls _ _ (via step_of c.scan_run.ensures c.in-Ok.is)
 
 pub loop-at-preserved : goal.loop-at-preserved
 loop-at-preserved c =
-    let e = via step_of c.scan_run.ensures c.in-On.is in
+    let e = via step_of c.scan_run.ensures c.in-Ok.is in
     ((deltas _).capped _ _ e, leading-on _ _ c.loop-at.invariant.1 _ e)
 
-pub returns-in-Off : goal.returns-in-Off
-returns-in-Off c =
-    let e = via step_of c.scan_run.ensures c.in-Off.is in
+pub returns-in_default : goal.returns-in_default
+returns-in_default c =
+    let e = via step_of c.scan_run.ensures c.in_default.is in
     let f : SFits w64 c.sum_of.result = search rules in
     same c.sum_of.result f ∙ c.sum_of.ensures ∙ c.run_sum.ensures ∙ leading-off _ _ c.loop-at.invariant.1 _ _ e
 

@@ -4,9 +4,9 @@ use mir.Syntax.{w64}
 use mir.Val.{SFits}
 use mir.ValLaws.{to_z-of_z}
 use borrow.Author.Rules.{rules}
-use Rattle.leb128.specs.Cases.{i64_of}
+use Rattle.leb128.specs.Cases.{parsed_of}
 use Rattle.encoding.proofs.Via.{via}
-use Rattle.delta_decoder.specs.Cases.{sum_is}
+use Rattle.encoding.specs.Cases.{maybe_of}
 use Rattle.delta_decoder.proofs.Readings.{counted_start, counted-on, counted-out, counted-unread, counted-end}
 use Rattle.delta_decoder.proofs.read_literals.Goals as goal
 
@@ -21,23 +21,23 @@ loop-read-smaller c = omega arith
 
 pub loop-read-preserved : goal.loop-read-preserved
 loop-read-preserved c =
-    let d = c.in-Number.d in
+    let d = c.in-Ok.d in
     let f : SFits w64 d = search rules in
-    let r = via i64_of c.difference.ensures c.in-Number.is in
-    let t = rw (to_z-of_z w64 d f) at (via sum_is c.add.ensures c.in-Is.is) in
+    let r = via parsed_of c.difference.ensures c.in-Ok.is in
+    let t = rw (to_z-of_z w64 d f) at (via maybe_of c.add.ensures c.in-Some.is) in
     counted-on _ _ _ _ _ _ c.loop-read.invariant d _ _ c.loop-read-test.true r t
 
-pub returns-in-Outside : goal.returns-in-Outside
-returns-in-Outside c =
-    let d = c.in-Number.d in
+pub returns-in_default-add : goal.returns-in_default-add
+returns-in_default-add c =
+    let d = c.in-Ok.d in
     let f : SFits w64 d = search rules in
-    let r = via i64_of c.difference.ensures c.in-Number.is in
-    let t = rw (to_z-of_z w64 d f) at (via sum_is c.add.ensures c.in-Outside.is) in
+    let r = via parsed_of c.difference.ensures c.in-Ok.is in
+    let t = rw (to_z-of_z w64 d f) at (via maybe_of c.add.ensures c.in_default-add.is) in
     counted-out _ _ _ _ _ _ c.loop-read.invariant d _ c.loop-read-test.true r t
 
-pub returns-in-Refused : goal.returns-in-Refused
-returns-in-Refused c =
-    counted-unread _ _ _ _ _ _ c.loop-read.invariant _ _ c.loop-read-test.true (via i64_of c.difference.ensures c.in-Refused.is)
+pub returns-in_default : goal.returns-in_default
+returns-in_default c =
+    counted-unread _ _ _ _ _ _ c.loop-read.invariant _ _ c.loop-read-test.true (via parsed_of c.difference.ensures c.in_default.is)
 
 pub returns : goal.returns
 returns c = counted-end _ _ _ _ _ _ c.loop-read.invariant c.loop-read-test.false

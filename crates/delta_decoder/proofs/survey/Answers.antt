@@ -16,11 +16,11 @@ pub scan_run-requires : goal.scan_run-requires
 scan_run-requires c = record { at_in_bounds = search rules; table_value = c.short_numbers-table.ensures }
 
 pub loop-at-smaller : goal.loop-at-smaller
-loop-at-smaller c = (deltas _).falls _ _ (via step_of c.scan_run.ensures c.in-On.is)
+loop-at-smaller c = (deltas _).falls _ _ (via step_of c.scan_run.ensures c.in-Ok.is)
 
 pub loop-at-preserved : goal.loop-at-preserved
 loop-at-preserved c =
-    let e = via step_of c.scan_run.ensures c.in-On.is in
+    let e = via step_of c.scan_run.ensures c.in-Ok.is in
     ((deltas _).capped _ _ e, c.loop-at.invariant.1 ∙ surveys-on (deltas _) _ _ e)
 
 pub read_run-read-requires : goal.read_run-read-requires
@@ -29,9 +29,9 @@ read_run-read-requires c = record { at_in_bounds = search rules; table_value = c
 pub overflow_add-result : goal.overflow_add-result
 overflow_add-result c = omega arith
 
-pub returns-in-Off : goal.returns-in-Off
-returns-in-Off c =
-    let e = via step_of c.scan_run.ensures c.in-Off.is in
+pub returns-in-Err : goal.returns-in-Err
+returns-in-Err c =
+    let e = via step_of c.scan_run.ensures c.in-Err.is in
     let r = c.read_run-read.ensures.value in
     rw delta-rest (sym (surveys-start (deltas _) _ refl ∙ c.loop-at.invariant.1 ∙ surveys-off (deltas _) _ _ _ _ e r))
 

@@ -1,16 +1,14 @@
 -- `delta_encoder::put_number` meets its contract: where there is room, nothing is refused. Assumes nothing.
 use Rattle.leb128_writer.specs.Cases.{written_of}
 use Rattle.encoding.proofs.Via.{via}
-use Rattle.encoding.proofs.Placing.{placed, not-refused}
+use Rattle.encoding.proofs.Placing.{placed}
+use Rattle.delta_encoder.proofs.Writing.{put-ok}
 use Rattle.delta_encoder.proofs.put_number.Goals as goal
 
-pub returns-in-Next : goal.returns-in-Next
-returns-in-Next c =
-    let e = c.put_u64.ensures in
-    let n = via written_of e.result_value c.in-Next.is in
-    placed _ _ _ c.requires _ _ n e.out_after
+pub unwrap-requires : goal.unwrap-requires
+unwrap-requires c = put-ok _ _ _ c.requires _ c.put_u64.ensures.result_value
 
-pub returns-in-Refused : goal.returns-in-Refused
-returns-in-Refused c =
-    let e = via written_of c.put_u64.ensures.result_value c.in-Refused.is in
-    absurd (not-refused _ _ _ c.requires _ _ e)
+pub returns : goal.returns
+returns c =
+    let e = c.put_u64.ensures in
+    placed _ _ _ c.requires _ _ (via written_of e.result_value c.unwrap.ensures) e.out_after

@@ -1,8 +1,7 @@
 -- `delta_range::splice_delta` meets its contract: refused by its plan, or ready. Assumes nothing.
 use lib.IntN.{pos}
-use mathlib.Core.Path.{sym}
-use Rattle.encoding.proofs.Via.{via}
-use Rattle.splice.specs.Steps.{plan_of}
+use mathlib.Core.Path.{refl}
+use Rattle.std.proofs.lemmas.Result.{err_from_is_err_and}
 use Rattle.splice.specs.Kinds.{delta}
 use Rattle.splice.proofs.Counting.{delta-counts}
 use Rattle.splice.proofs.OptionalEdits.{optional-stopped, optional-ready}
@@ -11,18 +10,13 @@ use Rattle.delta_range.proofs.splice_delta.Goals as goal
 pub edit_i64-requires : goal.edit_i64-requires
 edit_i64-requires c =
     let a = c.args in
-    let e = sym (via plan_of c.plan.ensures c.in-Ready.is) in
+    let e = c.in_ok-found.ensures in
     let both : _ × _ = optional-ready delta (pos 0) a.block.now a.position a.start a.end a.new.now a.new_present.now a.values.now a.present.now a.out.now
     delta-counts e in record { ready = both.0; new_present_value = both.1 }
 
-pub returns-in-Ready : goal.returns-in-Ready
-returns-in-Ready c =
-    let edit-i64 = c.edit_i64 in
-    edit-i64.ensures
-
-pub returns-in-Refused : goal.returns-in-Refused
-returns-in-Refused c =
+pub returns-in_err-found : goal.returns-in_err-found
+returns-in_err-found c =
     let a = c.args in
-    let e = sym (via plan_of c.plan.ensures c.in-Refused.is) in
-    optional-stopped delta (pos 0) a.block.now a.position a.start a.end a.new.now a.new_present.now a.values.now a.present.now a.out.now
-    delta-counts e c.refused.ensures
+    let p = err_from_is_err_and c.from_residual.result c.from_residual.ensures.1 in
+    rw (p.1, p.2) (optional-stopped delta (pos 0) a.block.now a.position a.start a.end a.new.now a.new_present.now a.values.now a.present.now a.out.now
+    delta-counts c.in_err-found.ensures refl)

@@ -1,28 +1,23 @@
 -- `delta_range::write_block_i64` meets its contract: its size, and then the block. Assumes nothing.
-use mathlib.Core.Path.{◌∙◌, sym, ap}
-use Rattle.encoding.specs.Cases.{answer_of}
+use mathlib.Core.Path.{◌∙◌, refl, sym, ap}
+use Rattle.std.proofs.lemmas.Result.{err_from_is_err_and}
 use Rattle.encoding.specs.Given.{slot_list, sized}
-use Rattle.encoding.proofs.Via.{via}
 use Rattle.splice.specs.Kinds.{delta}
 use Rattle.splice.proofs.Writing.{delta-judged, size-done, finish-refused}
 use Rattle.delta_range.proofs.write_block_i64.Goals as goal
 
 pub put_block_i64-requires : goal.put_block_i64-requires
 put_block_i64-requires c =
-    let encoded-len = c.encoded_len in
     let a = c.args in
     let W = delta.writes (slot_list a.values.now a.present.now) in
-    let e = sym (ap (sized W) (delta-judged a.values.now a.present.now c.requires.good)) ∙ via answer_of encoded-len.ensures c.in-Done.is in
+    let e = sym (ap (sized W) (delta-judged a.values.now a.present.now c.requires.good)) ∙ sym c.in_ok-size.ensures in
     record { has_row = c.requires.has_row; good = c.requires.good; size_value = size-done W _ (delta.wide (slot_list a.values.now a.present.now)) e }
 
-pub returns-in-Done : goal.returns-in-Done
-returns-in-Done c = c.put_block_i64.ensures
-
-pub returns-in-Refused : goal.returns-in-Refused
-returns-in-Refused c =
-    let encoded-len = c.encoded_len in
+pub returns-in_err-size : goal.returns-in_err-size
+returns-in_err-size c =
     let a = c.args in
     let xs = slot_list a.values.now a.present.now in
     let W = delta.writes xs in
-    let e = sym (ap (sized W) (delta-judged a.values.now a.present.now c.requires.good)) ∙ via answer_of encoded-len.ensures c.in-Refused.is in
-    finish-refused delta c.requires.has_row xs a.out.now _ e c.refused.ensures
+    let e = sym (ap (sized W) (delta-judged a.values.now a.present.now c.requires.good)) ∙ sym c.in_err-size.ensures in
+    let p = err_from_is_err_and c.from_residual.result c.from_residual.ensures.1 in
+    rw (p.1, p.2) (finish-refused delta c.requires.has_row xs a.out.now _ e refl)

@@ -13,11 +13,11 @@ use lib.Seq.{length-take-le}
 use Rattle.splice.proofs.Replacing.{splice-fits}
 use Rattle.pen_log.proofs.apply.Goals as goal
 
-pub slice_bounds-splice_i64-end : goal.slice_bounds-splice_i64-end
-slice_bounds-splice_i64-end c = sym (length-take-le _ _ (omega (arith, c.requires.one)))
+pub slice_bounds-splice-end : goal.slice_bounds-splice-end
+slice_bounds-splice-end c = sym (length-take-le _ _ (omega (arith, c.requires.one)))
 
-pub slice_bounds-splice_u8-end : goal.slice_bounds-splice_u8-end
-slice_bounds-splice_u8-end c = sym (length-take-le _ _ (omega (arith, c.requires.one)))
+pub slice_bounds-splice-end-2 : goal.slice_bounds-splice-end-2
+slice_bounds-splice-end-2 c = sym (length-take-le _ _ (omega (arith, c.requires.one)))
 
 pub returns : goal.returns
 returns c =
@@ -34,9 +34,9 @@ returns c =
       long = refl;
       values =
           splice-fits (pos 0) a.values.now a.len sp.start sp.end (take n (y ∷ [])) f.ordered f.within f.old_fits (omega (arith, l, f.new_fits))
-          c.splice_i64.ensures.s_after
+          c.splice.ensures.s_after
           ∙ ap (λ (i : ℤ). in_slots (pos 0) a.values.now a.len (spliced (take a.len a.values.now) sp.start sp.end (take n (i ∷ [])))) x;
       presence =
           splice-fits 0 a.present.now a.len sp.start sp.end (take n (sp.flag ∷ [])) f.ordered f.within (omega (arith, f.old_fits, f.even))
-          (omega (arith, k, f.new_fits, f.even)) c.splice_u8.ensures.s_after;
+          (omega (arith, k, f.new_fits, f.even)) c.splice-2.ensures.s_after;
     }

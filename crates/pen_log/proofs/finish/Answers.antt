@@ -1,6 +1,7 @@
 -- `pen_log::finish` meets its contract: the list is the slots' front. Assumes nothing.
 use mathlib.Core.Path.{sym, ap}
 use lib.ListN.{take}
+use Rattle.std.proofs.lemmas.Result.{err_from_is_err_and}
 use lib.Seq.{length-take-le}
 use Rattle.encoding.specs.Cases.{answer_of}
 use Rattle.pen_log.proofs.Replaying.{finishes}
@@ -12,14 +13,15 @@ slice_bounds-encode-end c = sym (length-take-le c.args.len c.args.values.now c.r
 pub slice_bounds-encode-end-2 : goal.slice_bounds-encode-end-2
 slice_bounds-encode-end-2 c = sym (length-take-le c.args.len c.args.present.now c.requires.len_in_bounds.1)
 
-pub returns-in-Done : goal.returns-in-Done
-returns-in-Done c =
+pub returns : goal.returns
+returns c =
     let a = c.args in
     finishes (take a.len a.values.now) (take a.len a.present.now) c.requires.good c.encode.ensures a.len
-    (length-take-le a.len a.values.now c.requires.len_in_bounds.0) (ap answer_of c.in-Done.is)
+    (length-take-le a.len a.values.now c.requires.len_in_bounds.0) (ap answer_of c.in_ok-size.was)
 
-pub returns-in-Refused : goal.returns-in-Refused
-returns-in-Refused c =
+pub returns-in_err-size : goal.returns-in_err-size
+returns-in_err-size c =
     let a = c.args in
-    finishes (take a.len a.values.now) (take a.len a.present.now) c.requires.good c.encode.ensures a.len
-    (length-take-le a.len a.values.now c.requires.len_in_bounds.0) (ap answer_of c.in-Refused.is)
+    let p = err_from_is_err_and c.from_residual.result c.from_residual.ensures.1 in
+    rw (p.1, p.2) (finishes (take a.len a.values.now) (take a.len a.present.now) c.requires.good c.encode.ensures a.len
+    (length-take-le a.len a.values.now c.requires.len_in_bounds.0) (ap answer_of c.in_err-size.was))

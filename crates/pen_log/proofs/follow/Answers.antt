@@ -13,26 +13,26 @@ loop-at-init c = (c.requires.final, going_start c.requires)
 pub apply-len-requires : goal.apply-len-requires
 apply-len-requires c =
     let a = c.args in
-    let o : SpanOf c.in-At.sp (entry_at a.log.now c.loop-at.at) = rw c.in-At.is at c.span_at.ensures in
+    let o : SpanOf c.in-Ok.sp (entry_at a.log.now c.loop-at.at) = rw c.in-Ok.is at c.span_at.ensures in
     going-fits _ _ _ _ c.loop-at.invariant.1 (omega arith) o
 
 pub loop-at-smaller : goal.loop-at-smaller
 loop-at-smaller c =
     let a = c.args in
-    let o : SpanOf c.in-At.sp (entry_at a.log.now c.loop-at.at) = rw c.in-At.is at c.span_at.ensures in
+    let o : SpanOf c.in-Ok.sp (entry_at a.log.now c.loop-at.at) = rw c.in-Ok.is at c.span_at.ensures in
     let w = going-further _ _ _ _ c.loop-at.invariant.1 (omega arith) o in
     omega (arith, w)
 
 pub loop-at-preserved : goal.loop-at-preserved
 loop-at-preserved c =
     let a = c.args in
-    let o : SpanOf c.in-At.sp (entry_at a.log.now c.loop-at.at) = rw c.in-At.is at c.span_at.ensures in
+    let o : SpanOf c.in-Ok.sp (entry_at a.log.now c.loop-at.at) = rw c.in-Ok.is at c.span_at.ensures in
     (c.loop-at.invariant.0, going_on _ _ _ _ c.loop-at.invariant.1 (omega arith) o c.apply-len.ensures c.apply-len.auto.values c.apply-len.auto.present)
 
-pub returns-in-Refused : goal.returns-in-Refused
-returns-in-Refused c =
+pub returns-in-Err : goal.returns-in-Err
+returns-in-Err c =
     let a = c.args in
-    let o : entry_at a.log.now c.loop-at.at ≡ bad _ _ = rw c.in-Refused.is at c.span_at.ensures in
+    let o : entry_at a.log.now c.loop-at.at ≡ bad _ _ = rw c.in-Err.is at c.span_at.ensures in
     absurd (going-read _ _ _ _ c.loop-at.invariant.1 (omega arith) o)
 
 pub returns : goal.returns

@@ -1,24 +1,23 @@
 -- `raw_column::row_at` meets its contract: one law for each way out. Assumes nothing.
-use mathlib.Core.Path.{refl}
-use Rattle.leb128.specs.Cases.{u32_of, u64_of}
-use Rattle.encoding.proofs.Via.{via}
-use Rattle.raw_column.proofs.Opening.{read-bad, read-bad-len, read-good}
+use mathlib.Core.Path.{sym}
+use native.Mathlib.Omega.{arith}
+use Rattle.std.proofs.lemmas.Result.{err_from_is_err_and}
+use Rattle.leb128.proofs.Laws.{u64-next}
+use Rattle.raw_column.proofs.Opening.{row-bad, row-bad-len, row-good}
 use Rattle.raw_column.proofs.row_at.Goals as goal
 
-pub returns-in-Refused : goal.returns-in-Refused
-returns-in-Refused c =
-    let e = via u32_of c.leb128_u32.ensures c.in-Refused.is in
-    read-bad _ _ _ e c.no_row.ensures.0 c.no_row.ensures.1
+pub returns-in_err-spec : goal.returns-in_err-spec
+returns-in_err-spec c =
+    let p = err_from_is_err_and c.from_residual.result c.from_residual.ensures.1 in
+    rw (p.1, p.2) (row-bad _ _ (sym c.in_err-spec.ensures))
 
-pub returns-in-Refused-leb128_u64 : goal.returns-in-Refused-leb128_u64
-returns-in-Refused-leb128_u64 c =
-    let leb128-u32 = c.leb128_u32 in
-    let e = via u32_of leb128-u32.ensures c.in-Number.is in
-    let f = via u64_of c.leb128_u64.ensures c.in-Refused-leb128_u64.is in
-    read-bad-len _ _ _ e f c.no_row-in-Refused-leb128_u64.ensures.0 c.no_row-in-Refused-leb128_u64.ensures.1
+pub returns-in_err-len : goal.returns-in_err-len
+returns-in_err-len c =
+    let p = err_from_is_err_and c.from_residual-in_err-len.result c.from_residual-in_err-len.ensures.1 in
+    rw (p.1, p.2) (row-bad-len _ _ (sym c.in_ok-spec.ensures) (sym c.in_err-len.ensures))
 
-pub returns-in-Number-leb128_u64 : goal.returns-in-Number-leb128_u64
-returns-in-Number-leb128_u64 c =
-    let leb128-u32 = c.leb128_u32 in
-    let e = via u32_of leb128-u32.ensures c.in-Number.is in
-    read-good _ _ _ e (via u64_of c.leb128_u64.ensures c.in-Number-leb128_u64.is) refl refl
+pub returns : goal.returns
+returns c =
+    let f = sym c.in_ok-len.ensures in
+    let k = u64-next _ c.in_ok-spec.q c.in_ok-len.len c.in_ok-len.next f in
+    (omega arith, k.1, row-good _ _ (sym c.in_ok-spec.ensures) f)

@@ -1,5 +1,5 @@
 -- `rewriting::fed_literals` meets its contract: what is owed from each literal value on is what is owed from the first. Assumes nothing.
-use Prim.Native.Nat.{◌-◌, ◌≤◌}
+use Prim.Native.Nat.{◌≤◌}
 use mathlib.Core.Path.{◌≡◌}
 use lib.ListN.{length}
 use Rattle.rewriting.specs.Cutter.{fed_all}
@@ -14,6 +14,3 @@ invariant-loop-i l = (l.i ≤ l.total)
     × Kept l.s l.cutter l.i
     × (fed_all plain_e l.room (cut_of l.s l.initial.cutter) (owed_literals (element_of l.values).E l.s l.most l.total l.had l.q)
     ≡ fed_all plain_e l.room (cut_of l.s l.cutter) (owed_literals (element_of l.values).E l.s l.most l.total l.i l.at))
-
-abbrev pub decreases-loop-i : goal.decreases-loop-i
-decreases-loop-i l = l.total - l.i

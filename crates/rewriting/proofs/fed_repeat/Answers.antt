@@ -15,26 +15,26 @@ fed_same-requires c =
     let a = c.args in
     let s = a.s.now in
     let p = c.requires in
-    let h = end-near a.values s _ _ (ended a.values s _ c.value_end.ensures c.in-At.is) in
+    let h = end-near a.values s _ _ (ended a.values s _ c.value_end.ensures c.in-Ok.is) in
     (p.kept.inside, (omega (arith, h.0), h.1), omega (arith, p.kept.few, p.n_bound.0))
 
-pub returns-in-At : goal.returns-in-At
-returns-in-At c =
+pub returns-in-Ok : goal.returns-in-Ok
+returns-in-Ok c =
     let a = c.args in
     let s = a.s.now in
     let E = (element_of a.values).E in
     let L = element_laws a.values in
     let p = c.requires in
-    let r = ended a.values s _ c.value_end.ensures c.in-At.is in
+    let r = ended a.values s _ c.value_end.ensures c.in-Ok.is in
     let h = end-near a.values s _ _ r in
     let f = c.fed_same.ensures in
-    let B : (j : ℕ) → get_or s j 0 < 256 = λ j. omega (arith, c.shared_slice_known-1.given j) in record { q_value = fed-repeated E L s a.most a.room _ _ B _ _ r.0 r.1 _ _ f.result_value; kept_2 = (record { inside = f.within.0; few = omega (arith, f.within.1, p.kept.few) }, p.n_bound.0, omega (arith, h.0)) }
+    let B : (j : ℕ) → get_or s j 0 < 256 = λ j. omega (arith, c.type_inv.s j) in record { q_value = fed-repeated E L s a.most a.room _ _ B _ _ r.0 r.1 _ _ f.result_value; kept_2 = (record { inside = f.within.0; few = omega (arith, f.within.1, p.kept.few) }, p.n_bound.0, omega (arith, h.0)) }
 
-pub returns-in-Refused : goal.returns-in-Refused
-returns-in-Refused c =
+pub returns-in-Err : goal.returns-in-Err
+returns-in-Err c =
     let a = c.args in
     let s = a.s.now in
     let E = (element_of a.values).E in
     let L = element_laws a.values in
     let p = c.requires in
-    let r = ended a.values s _ c.value_end.ensures c.in-Refused.is in record { q_value = ap (fed_all plain_e a.room _) (repeat-bad E s a.most L _ _ _ _ _ r); kept_2 = (p.kept, omega (arith, p.n_bound.0), p.n_bound.2) }
+    let r = ended a.values s _ c.value_end.ensures c.in-Err.is in record { q_value = ap (fed_all plain_e a.room _) (repeat-bad E s a.most L _ _ _ _ _ r); kept_2 = (p.kept, omega (arith, p.n_bound.0), p.n_bound.2) }

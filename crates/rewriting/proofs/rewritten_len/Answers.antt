@@ -19,7 +19,7 @@ returns-then-most-had c =
     let a = c.args in
     let s = a.s.now in
     let E = (element_of a.values).E in
-    let B : (j : ℕ) → get_or s j 0 < 256 = λ j. omega (arith, c.shared_slice_known-1.given j) in
+    let B : (j : ℕ) → get_or s j 0 < 256 = λ j. omega (arith, c.type_inv.s j) in
     let e = owed_none E s a.most _ _ c.if-most-had.true in
     c.finished.ensures ∙ fed-whole a.values s B a.most a.room _ _ e c.loop-at.invariant.2
 
@@ -43,6 +43,6 @@ returns c =
     let s = a.s.now in
     let E = (element_of a.values).E in
     let L = element_laws a.values in
-    let B : (j : ℕ) → get_or s j 0 < 256 = λ j. omega (arith, c.shared_slice_known-1.given j) in
+    let B : (j : ℕ) → get_or s j 0 < 256 = λ j. omega (arith, c.type_inv.s j) in
     let e = owed-end E s a.most L _ _ c.loop-at-test.false in
     c.finished-2.ensures ∙ fed-whole a.values s B a.most a.room _ _ e c.loop-at.invariant.2

@@ -1,4 +1,5 @@
 -- `rle_decoder::decode` meets its contract: one law for each way out. Assumes nothing.
+use Rattle.std.proofs.lemmas.Result.{err_from_is_err_and}
 use Rattle.encoding.specs.Cases.{answer_of}
 use Rattle.encoding.specs.Slots.{slot_of, flag_of}
 use Rattle.encoding.proofs.Via.{via}
@@ -10,21 +11,22 @@ returns-then-values-present c = decode-uneven _ (slot_of 0) flag_of _ _ c.if-val
 
 pub fill-requires : goal.fill-requires
 fill-requires c =
-    let e = via answer_of c.count.ensures c.in-Done.is in
-    decode-room _ (slot_of 0) flag_of _ _ _ c.if-values-present.false e c.if-n-values.true
+    let e = via answer_of c.count.ensures c.in_ok-due.was in
+    decode-room _ (slot_of 0) flag_of _ _ _ c.if-values-present.false e c.if-due-values.true
 
-pub returns-then-n-values : goal.returns-then-n-values
-returns-then-n-values c =
-    let e = via answer_of c.count.ensures c.in-Done.is in
+pub returns-then-due-values : goal.returns-then-due-values
+returns-then-due-values c =
+    let e = via answer_of c.count.ensures c.in_ok-due.was in
     let w = c.fill.ensures in
-    decode-done _ (slot_of 0) flag_of _ _ _ _ _ _ c.if-values-present.false e c.if-n-values.true w.wrote w.result_value
+    decode-done _ (slot_of 0) flag_of _ _ _ _ _ _ c.if-values-present.false e c.if-due-values.true w.wrote w.result_value
 
-pub returns-else-n-values : goal.returns-else-n-values
-returns-else-n-values c =
-    let e = via answer_of c.count.ensures c.in-Done.is in
-    decode-short _ (slot_of 0) flag_of _ _ _ c.if-values-present.false e c.if-n-values.false
+pub returns : goal.returns
+returns c =
+    let e = via answer_of c.count.ensures c.in_ok-due.was in
+    decode-short _ (slot_of 0) flag_of _ _ _ c.if-values-present.false e c.if-due-values.false
 
-pub returns-in-Refused : goal.returns-in-Refused
-returns-in-Refused c =
-    let e = via answer_of c.count.ensures c.in-Refused.is in
-    decode-fault _ (slot_of 0) flag_of _ _ _ _ c.if-values-present.false e
+pub returns-in_err-due : goal.returns-in_err-due
+returns-in_err-due c =
+    let p = err_from_is_err_and c.from_residual.result c.from_residual.ensures.1 in
+    let e = via answer_of c.count.ensures c.in_err-due.was in
+    rw (p.1, p.2) (decode-fault _ (slot_of 0) flag_of _ _ _ _ c.if-values-present.false e)

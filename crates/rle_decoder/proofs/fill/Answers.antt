@@ -1,6 +1,7 @@
 -- `rle_decoder::fill` meets its contract: answer and slots owed at each run's start are those owed at the column's. Assumes nothing.
 use mathlib.Core.Path.{refl}
 use borrow.Author.Rules.{rules}
+use Rattle.std.proofs.lemmas.Result.{err_from_is_err_and}
 use Rattle.encoding.specs.Column.{spot}
 use Rattle.encoding.specs.Slots.{slot_of, flag_of}
 use Rattle.encoding.proofs.Via.{via}
@@ -22,19 +23,20 @@ fill_run-requires c =
 
 pub loop-at-smaller : goal.loop-at-smaller
 loop-at-smaller c =
-    (words _).falls _ _ (via step_of c.fill_run.ensures.result_value c.in-On.is)
+    (words _).falls _ _ (via step_of c.fill_run.ensures.result_value c.in_ok-next.was)
 
 pub loop-at-preserved : goal.loop-at-preserved
 loop-at-preserved c =
     let o = c.loop-at.invariant in
     let w = c.fill_run.ensures in
-    owed-on (words _) (slot_of 0) flag_of (spot 0 0) refl _ _ _ _ _ o _ _ _ w.wrote (via step_of w.result_value c.in-On.is)
+    owed-on (words _) (slot_of 0) flag_of (spot 0 0) refl _ _ _ _ _ o _ _ _ w.wrote (via step_of w.result_value c.in_ok-next.was)
 
-pub returns-in-Off : goal.returns-in-Off
-returns-in-Off c =
+pub returns-in_err-next : goal.returns-in_err-next
+returns-in_err-next c =
+    let p = err_from_is_err_and c.from_residual.result c.from_residual.ensures.1 in
     let o = c.loop-at.invariant in
     let w = c.fill_run.ensures in
-    rw (trace-rest u64_e u64-laws) (let both : _ × _ = owed-off (words _) (slot_of 0) flag_of (spot 0 0) refl _ _ _ _ _ o _ _ _ _ w.wrote (via step_of w.result_value c.in-Off.is) in record { result_value = both.0; wrote = both.1 })
+    rw (trace-rest u64_e u64-laws) (let both : _ × _ = owed-off (words _) (slot_of 0) flag_of (spot 0 0) refl _ _ _ _ _ o _ _ _ _ w.wrote (via step_of w.result_value c.in_err-next.was) in record { result_value = rw (p.1, p.2) both.0; wrote = both.1 })
 
 pub shape_of-values : goal.shape_of-values
 shape_of-values c = c.loop-at.invariant.same-v

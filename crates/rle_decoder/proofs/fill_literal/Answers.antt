@@ -1,6 +1,7 @@
 -- `rle_decoder::fill_literal` meets its contract: each value read comes first of those still to come. Assumes nothing.
 use native.Mathlib.Omega.{arith}
-use Rattle.leb128.specs.Cases.{u64_of}
+use Rattle.std.proofs.lemmas.Result.{err_from_is_err_and}
+use Rattle.leb128.specs.Cases.{parsed_of}
 use Rattle.encoding.proofs.Via.{via}
 use Rattle.encoding.proofs.Columns.{literals-on, literals-off, literals-none}
 use Rattle.rle_decoder.specs.Word.{u64_e}
@@ -12,7 +13,7 @@ loop-left-init c = partly-start c.requires
 
 pub bounds-values-i : goal.bounds-values-i
 bounds-values-i c =
-    let r = via u64_of c.leb128_u64.ensures c.in-Number.is in
+    let r = via parsed_of c.leb128_u64.ensures c.in_ok-word.was in
     let e = literals-on u64_e _ _ _ _ _ _ c.loop-left-test.true r in
     partly-room c.loop-left.invariant e
 
@@ -30,21 +31,22 @@ loop-left-smaller c = omega arith
 
 pub loop-left-preserved : goal.loop-left-preserved
 loop-left-preserved c =
-    let r = via u64_of c.leb128_u64.ensures c.in-Number.is in
+    let r = via parsed_of c.leb128_u64.ensures c.in_ok-word.was in
     let e = literals-on u64_e _ _ _ _ _ _ c.loop-left-test.true r in
     partly-on c.loop-left.invariant e
 
-pub shape_of-values-in-Refused : goal.shape_of-values-in-Refused
-shape_of-values-in-Refused c = c.loop-left.invariant.same-v
+pub shape_of-values-in_err-word : goal.shape_of-values-in_err-word
+shape_of-values-in_err-word c = c.loop-left.invariant.same-v
 
-pub shape_of-present-in-Refused : goal.shape_of-present-in-Refused
-shape_of-present-in-Refused c = c.loop-left.invariant.same-p
+pub shape_of-present-in_err-word : goal.shape_of-present-in_err-word
+shape_of-present-in_err-word c = c.loop-left.invariant.same-p
 
-pub returns-in-Refused : goal.returns-in-Refused
-returns-in-Refused c =
-    let r = via u64_of c.leb128_u64.ensures c.in-Refused.is in
+pub returns-in_err-word : goal.returns-in_err-word
+returns-in_err-word c =
+    let p = err_from_is_err_and c.from_residual.result c.from_residual.ensures.1 in
+    let r = via parsed_of c.leb128_u64.ensures c.in_err-word.was in
     let e = literals-off u64_e _ _ _ _ _ _ c.loop-left-test.true r in
-    let both : _ × _ = partly-end c.loop-left.invariant e in record { result_value = both.0; wrote = both.1 }
+    let both : _ × _ = partly-end c.loop-left.invariant e in record { result_value = rw (p.1, p.2) both.0; wrote = both.1 }
 
 pub shape_of-values : goal.shape_of-values
 shape_of-values c = c.loop-left.invariant.same-v

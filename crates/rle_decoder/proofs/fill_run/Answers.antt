@@ -1,6 +1,8 @@
 -- `rle_decoder::fill_run` meets its contract: the run is the one that its head opens. Assumes nothing.
-use mathlib.Core.Path.{refl}
+use mathlib.Core.Path.{refl, ◌∙◌, ap}
 use native.Mathlib.Omega.{arith}
+use Rattle.std.specs.Prelude.{Ok}
+use Rattle.std.proofs.lemmas.Result.{err_from_is_err_and}
 use Rattle.encoding.specs.Cases.{head_of}
 use Rattle.encoding.specs.Column.{absent, run_of}
 use Rattle.encoding.specs.Slots.{slot_of, flag_of}
@@ -15,21 +17,21 @@ use Rattle.rle_decoder.proofs.fill_run.Goals as goal
 pub fill_repeat-requires : goal.fill_repeat-requires
 unfolding run_of
 fill_repeat-requires c =
-    let r = via head_of c.head_of.ensures c.in-Repeat.is in
+    let r = via head_of c.head_of.ensures (c.in_ok-c.was ∙ ap Ok c.in-Repeat.is) in
     let h = c.requires in
     let e = run-head u64_e _ _ _ _ h.at_in_bounds.0 r in
     record { c_bound = (head-known _ _ _ _ r).2; room = room-eq (readings-eq e) h.room }
 
 pub overflow_add-had : goal.overflow_add-had
 overflow_add-had c =
-    let r = via head_of c.head_of.ensures c.in-Literal.is in
+    let r = via head_of c.head_of.ensures (c.in_ok-c.was ∙ ap Ok c.in-Literal.is) in
     let h = head-known _ _ _ _ r in
     omega arith
 
 pub fill_literal-requires : goal.fill_literal-requires
 unfolding run_of
 fill_literal-requires c =
-    let r = via head_of c.head_of.ensures c.in-Literal.is in
+    let r = via head_of c.head_of.ensures (c.in_ok-c.was ∙ ap Ok c.in-Literal.is) in
     let h = c.requires in
     let e = run-head u64_e _ _ _ _ h.at_in_bounds.0 r in
     room-eq (readings-eq e) h.room
@@ -37,21 +39,21 @@ fill_literal-requires c =
 pub fill_same-requires : goal.fill_same-requires
 unfolding run_of
 fill_same-requires c =
-    let r = via head_of c.head_of.ensures c.in-Absent.is in
+    let r = via head_of c.head_of.ensures (c.in_ok-c.was ∙ ap Ok c.in-Absent.is) in
     let h = c.requires in
     let e = run-head u64_e _ _ _ _ h.at_in_bounds.0 r in
     (room-same _ _ absent (room-eq (readings-eq e) h.room), h.room.even)
 
 pub overflow_add-result : goal.overflow_add-result
 overflow_add-result c =
-    let r = via head_of c.head_of.ensures c.in-Absent.is in
+    let r = via head_of c.head_of.ensures (c.in_ok-c.was ∙ ap Ok c.in-Absent.is) in
     let h = head-known _ _ _ _ r in
     omega arith
 
 pub returns-in-Repeat : goal.returns-in-Repeat
 unfolding run_of
 returns-in-Repeat c =
-    let r = via head_of c.head_of.ensures c.in-Repeat.is in
+    let r = via head_of c.head_of.ensures (c.in_ok-c.was ∙ ap Ok c.in-Repeat.is) in
     let h = c.requires in
     let e = run-head u64_e _ _ _ _ h.at_in_bounds.0 r in
     let w = c.fill_repeat.ensures in
@@ -60,7 +62,7 @@ returns-in-Repeat c =
 pub returns-in-Literal : goal.returns-in-Literal
 unfolding run_of
 returns-in-Literal c =
-    let r = via head_of c.head_of.ensures c.in-Literal.is in
+    let r = via head_of c.head_of.ensures (c.in_ok-c.was ∙ ap Ok c.in-Literal.is) in
     let h = c.requires in
     let e = run-head u64_e _ _ _ _ h.at_in_bounds.0 r in
     let w = c.fill_literal.ensures in
@@ -69,16 +71,18 @@ returns-in-Literal c =
 pub returns-in-Absent : goal.returns-in-Absent
 unfolding run_of
 returns-in-Absent c =
-    let r = via head_of c.head_of.ensures c.in-Absent.is in
+    let r = via head_of c.head_of.ensures (c.in_ok-c.was ∙ ap Ok c.in-Absent.is) in
     let h = c.requires in
     let e = run-head u64_e _ _ _ _ h.at_in_bounds.0 r in
     let w = c.fill_same.ensures in
     let both : _ × _ = wrote-run e refl (wrote-same (slot_of 0) flag_of absent c.in-Absent.c _ _ _ _ _ w.0 w.1) in record { result_value = both.0; wrote = both.1 }
 
-pub returns-in-Refused : goal.returns-in-Refused
+pub returns-in_err-c : goal.returns-in_err-c
 unfolding run_of
-returns-in-Refused c =
-    let r = via head_of c.head_of.ensures c.in-Refused.is in
+returns-in_err-c c =
+    let p = err_from_is_err_and c.from_residual.result c.from_residual.ensures.1 in
+    let r = via head_of c.head_of.ensures c.in_err-c.was in
     let h = c.requires in
     let e = run-head u64_e _ _ _ _ h.at_in_bounds.0 r in
-    let both : _ × _ = wrote-run e refl (wrote_none (slot_of 0) flag_of _ _ _) in record { result_value = both.0; wrote = both.1 }
+    let both : _ × _ = wrote-run e refl (wrote_none (slot_of 0) flag_of _ _ _) in
+    record { result_value = rw (p.1, p.2) both.0; wrote = both.1 }

@@ -1,6 +1,6 @@
 -- `rle_decoder::read_literals` meets its contract: the values read so far and those that can still be read are those that can be read of all. Assumes nothing.
 use native.Mathlib.Omega.{arith}
-use Rattle.leb128.specs.Cases.{u64_of}
+use Rattle.leb128.specs.Cases.{parsed_of}
 use Rattle.encoding.proofs.Via.{via}
 use Rattle.encoding.proofs.Reading.{so-far-start, so-far-on, so-far-off, so-far-over}
 use Rattle.rle_decoder.specs.Word.{u64_e}
@@ -17,12 +17,12 @@ loop-read-smaller c = omega arith
 
 pub loop-read-preserved : goal.loop-read-preserved
 loop-read-preserved c =
-    let r = via u64_of c.leb128_u64.ensures c.in-Number.is in
+    let r = via parsed_of c.leb128_u64.ensures c.in-Ok.is in
     so-far-on u64_e _ _ _ _ _ c.loop-read.invariant _ _ c.loop-read-test.true r
 
-pub returns-in-Refused : goal.returns-in-Refused
-returns-in-Refused c =
-    let r = via u64_of c.leb128_u64.ensures c.in-Refused.is in
+pub returns-in-Err : goal.returns-in-Err
+returns-in-Err c =
+    let r = via parsed_of c.leb128_u64.ensures c.in-Err.is in
     so-far-off u64_e _ _ _ _ _ c.loop-read.invariant _ _ c.loop-read-test.true r
 
 pub returns : goal.returns

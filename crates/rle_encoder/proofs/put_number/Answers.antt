@@ -4,13 +4,13 @@ use Rattle.encoding.proofs.Via.{via}
 use Rattle.encoding.proofs.Placing.{placed, not-refused}
 use Rattle.rle_encoder.proofs.put_number.Goals as goal
 
-pub returns-in-Next : goal.returns-in-Next
-returns-in-Next c =
+pub returns-in-Ok : goal.returns-in-Ok
+returns-in-Ok c =
     let e = c.put_u64.ensures in
-    let n = via written_of e.result_value c.in-Next.is in
+    let n = via written_of e.result_value c.in-Ok.is in
     placed _ _ _ c.requires _ _ n e.out_after
 
-pub returns-in-Refused : goal.returns-in-Refused
-returns-in-Refused c =
-    let e = via written_of c.put_u64.ensures.result_value c.in-Refused.is in
+pub returns-in-Err : goal.returns-in-Err
+returns-in-Err c =
+    let e = via written_of c.put_u64.ensures.result_value c.in-Err.is in
     absurd (not-refused _ _ _ c.requires _ _ e)

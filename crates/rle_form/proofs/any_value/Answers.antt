@@ -1,15 +1,11 @@
 -- `rle_form::any_value` meets its contract: a piece that is absent is passed whole. Assumes nothing.
-use mathlib.Core.Path.{refl, sym, ◌∙◌, ap}
+use mathlib.Core.Path.{sym, ◌∙◌, ap}
 use Rattle.encoding.specs.Column.{trace}
 use Rattle.encoding.specs.Writer.{any_present}
 use Rattle.runs.proofs.Ends.{element_laws}
 use Rattle.runs.proofs.Held.{absent-true, absent-false}
-use Rattle.rle_form.proofs.Looked.{passed-less}
 use Rattle.rle_form.proofs.Turning.{any_held, any-passed, any-ended}
 use Rattle.rle_form.proofs.any_value.Goals as goal
-
-pub loop-p-init : goal.loop-p-init
-loop-p-init c = (c.first-p.ensures.going, refl)
 
 pub returns-then-not-is_absent : goal.returns-then-not-is_absent
 unfolding trace
@@ -18,13 +14,6 @@ returns-then-not-is_absent c =
     let h = c.loop-p.invariant in
     any_held _ (element_laws a.values) a.s.now _ h.0 c.loop-p-test.true (absent-false _ c.is_absent.result c.is_absent.ensures (c.if-not-is_absent.true))
     ∙ sym (ap any_present (sym c.first-p.ensures.result_value) ∙ h.1)
-
-pub loop-p-smaller : goal.loop-p-smaller
-loop-p-smaller c =
-    let a = c.args in
-    let k = c.advanced-p.ensures in
-    passed-less _ (element_laws a.values) a.s.now c.loop-p.p c.advanced-p.result
-    c.loop-p-test.true k.result_value
 
 pub loop-p-preserved : goal.loop-p-preserved
 loop-p-preserved c =

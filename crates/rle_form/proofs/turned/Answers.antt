@@ -3,11 +3,9 @@ use Prim.Native.Nat.{ℕ, ◌<◌}
 use mathlib.Core.Path.{sym}
 use native.Mathlib.Omega.{arith}
 use lib.ListN.{get_or}
-use Rattle.encoding.proofs.Via.{via}
-use Rattle.count_place.specs.Cases.{place_of}
-use Rattle.runs.specs.Cases.{next_of}
+use Rattle.std.proofs.lemmas.Result.{err_from_is_err_and}
 use Rattle.runs.proofs.Ends.{element_laws}
-use Rattle.rle_form.proofs.Turning.{turn-none, turn-few, turn-count, turn-off, turn_on, turn-sound, turn-there}
+use Rattle.rle_form.proofs.Turning.{turn-none, turn-few, turn-count, turn-off, turn_on}
 use Rattle.rle_form.proofs.turned.Goals as goal
 
 pub returns-then-p-eq0 : goal.returns-then-p-eq0
@@ -34,44 +32,20 @@ compare_count-requires c =
     let w = c.first-p.ensures in
     turn-count _ L a.s.now a.at a.had p.sound _ w.result_value _ c.stretch_at.ensures
 
-pub returns-in-Differs : goal.returns-in-Differs
-returns-in-Differs c =
+pub returns-in_err-compare_count : goal.returns-in_err-compare_count
+returns-in_err-compare_count c =
     let a = c.args in
     let L = element_laws a.values in
     let p = c.requires in
     let w = c.first-p.ensures in
-    let k = via place_of c.compare_count.ensures c.in-Differs.is in
-    turn-off _ L a.s.now a.at a.had p.sound _ w.result_value _ c.stretch_at.ensures _ k
+    let z = err_from_is_err_and c.from_residual.result c.from_residual.ensures.1 in
+    let k = turn-off _ L a.s.now a.at a.had p.sound _ w.result_value _ c.stretch_at.ensures _ (sym c.in_err-compare_count.ensures) in
+    rw (z.1, z.2) k
 
-pub returns-in-On : goal.returns-in-On
-returns-in-On c =
+pub returns : goal.returns
+returns c =
     let a = c.args in
-    let L = element_laws a.values in
-    let p = c.requires in
     let w = c.first-p.ensures in
-    let B : (j : ℕ) → get_or a.s.now j 0 < 256 = λ j. omega (arith, c.shared_slice_known-1.given j) in
-    let k = via place_of c.compare_count.ensures c.in-Behind.is in
-    let q = via next_of c.run_end.ensures c.in-On.is in
-    turn_on _ L a.s.now a.at a.had p.sound _ w.result_value _ c.stretch_at.ensures B _ k _ _ (sym q)
-
-pub returns-in-Off : goal.returns-in-Off
-returns-in-Off c =
-    let a = c.args in
-    let L = element_laws a.values in
-    let p = c.requires in
-    let w = c.first-p.ensures in
-    let B : (j : ℕ) → get_or a.s.now j 0 < 256 = λ j. omega (arith, c.shared_slice_known-1.given j) in
-    let k = via place_of c.compare_count.ensures c.in-Behind.is in
-    let q = via next_of c.run_end.ensures c.in-Off.is in
-    absurd (turn-sound _ L a.s.now a.at a.had p.sound _ w.result_value _ c.stretch_at.ensures B _ k _ _ (sym q))
-
-pub returns-in-Over : goal.returns-in-Over
-returns-in-Over c =
-    let a = c.args in
-    let L = element_laws a.values in
-    let p = c.requires in
-    let w = c.first-p.ensures in
-    let B : (j : ℕ) → get_or a.s.now j 0 < 256 = λ j. omega (arith, c.shared_slice_known-1.given j) in
-    let k = via place_of c.compare_count.ensures c.in-Behind.is in
-    let q = via next_of c.run_end.ensures c.in-Over.is in
-    absurd (turn-there _ L a.s.now a.at a.had p.sound _ w.result_value _ c.stretch_at.ensures B _ k (sym q))
+    let B : (j : ℕ) → get_or a.s.now j 0 < 256 = λ j. omega (arith, (c.type_inv.s j).fits) in
+    let k = turn_on _ (element_laws a.values) a.s.now a.at a.had c.requires.sound _ w.result_value _ c.stretch_at.ensures B _ (sym c.in_ok-compare_count.ensures) _ _ c.run_end.ensures in
+    rw (c.ok_or.ensures.value, c.flatten.ensures, c.ok.ensures.value) k

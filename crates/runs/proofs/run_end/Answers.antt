@@ -1,6 +1,8 @@
 -- `runs::run_end` meets its contract: the run is the one that its head opens; at the column's end there is none. Assumes nothing.
-use mathlib.Core.Path.{sym, ◌∙◌}
+use mathlib.Core.Path.{sym, ◌∙◌, ap}
 use native.Mathlib.Omega.{arith}
+use Rattle.std.specs.Prelude.{Ok}
+use Rattle.std.proofs.lemmas.Result.{err_from_is_err_and}
 use Rattle.encoding.specs.Cases.{head_of}
 use Rattle.encoding.specs.Column.{run_of}
 use Rattle.encoding.proofs.Via.{via}
@@ -16,18 +18,18 @@ returns-then-s-at c =
 
 pub repeat_end-requires : goal.repeat_end-requires
 repeat_end-requires c =
-    let r = via head_of c.head_at.ensures c.in-Repeat.is in
+    let r = via head_of c.head_at.ensures (c.in_ok-c.was ∙ ap Ok c.in-Repeat.is) in
     (head-known _ _ _ _ r).2
 
 pub overflow_add-had : goal.overflow_add-had
 overflow_add-had c =
-    let r = via head_of c.head_at.ensures c.in-Literal.is in
+    let r = via head_of c.head_at.ensures (c.in_ok-c.was ∙ ap Ok c.in-Literal.is) in
     let h = head-known _ _ _ _ r in
     omega arith
 
 pub overflow_add-result : goal.overflow_add-result
 overflow_add-result c =
-    let r = via head_of c.head_at.ensures c.in-Absent.is in
+    let r = via head_of c.head_at.ensures (c.in_ok-c.was ∙ ap Ok c.in-Absent.is) in
     let h = head-known _ _ _ _ r in
     omega arith
 
@@ -35,7 +37,7 @@ pub returns-in-Repeat : goal.returns-in-Repeat
 unfolding run_of
 returns-in-Repeat c =
     let x = c.args in
-    let r = via head_of c.head_at.ensures c.in-Repeat.is in
+    let r = via head_of c.head_at.ensures (c.in_ok-c.was ∙ ap Ok c.in-Repeat.is) in
     let e = run-head (element_of x.values).E x.s.now x.at x.had _ c.if-s-at.false r in
     c.repeat_end.ensures ∙ sym (next-eq e)
 
@@ -43,7 +45,7 @@ pub returns-in-Literal : goal.returns-in-Literal
 unfolding run_of
 returns-in-Literal c =
     let x = c.args in
-    let r = via head_of c.head_at.ensures c.in-Literal.is in
+    let r = via head_of c.head_at.ensures (c.in_ok-c.was ∙ ap Ok c.in-Literal.is) in
     let e = run-head (element_of x.values).E x.s.now x.at x.had _ c.if-s-at.false r in
     c.literal_end.ensures ∙ sym (next-eq e)
 
@@ -51,14 +53,15 @@ pub returns-in-Absent : goal.returns-in-Absent
 unfolding run_of
 returns-in-Absent c =
     let x = c.args in
-    let r = via head_of c.head_at.ensures c.in-Absent.is in
+    let r = via head_of c.head_at.ensures (c.in_ok-c.was ∙ ap Ok c.in-Absent.is) in
     let e = run-head (element_of x.values).E x.s.now x.at x.had _ c.if-s-at.false r in
     sym (next-eq e)
 
-pub returns-in-Refused : goal.returns-in-Refused
+pub returns-in_err-c : goal.returns-in_err-c
 unfolding run_of
-returns-in-Refused c =
+returns-in_err-c c =
     let x = c.args in
-    let r = via head_of c.head_at.ensures c.in-Refused.is in
+    let p = err_from_is_err_and c.from_residual.result c.from_residual.ensures.1 in
+    let r = via head_of c.head_at.ensures c.in_err-c.was in
     let e = run-head (element_of x.values).E x.s.now x.at x.had _ c.if-s-at.false r in
-    sym (next-eq e)
+    rw (p.1, p.2) (sym (next-eq e))

@@ -3,11 +3,11 @@ use mathlib.Core.Path.{◌∙◌}
 use Rattle.table_reason.proofs.Telling.{table-unread, table-rows, table-next}
 use Rattle.table_reason.proofs.told_table.Goals as goal
 
-pub returns-then-rows-ne0 : goal.returns-then-rows-ne0
-returns-then-rows-ne0 c = c.told_unread.ensures ∙ table-unread c.read_rows-rows.ensures c.if-rows-ne0.true
+pub returns-in-Err : goal.returns-in-Err
+returns-in-Err c = c.told_unread.ensures ∙ table-unread c.in-Err.ensures
 
 pub told_rows-requires : goal.told_rows-requires
-told_rows-requires c = (c.requires.0, table-next c.read_rows-rows.ensures c.if-rows-ne0.false c.requires.1)
+told_rows-requires c = (c.requires.0, table-next c.in-Ok.ensures c.requires.1)
 
-pub returns : goal.returns
-returns c = c.told_rows.ensures ∙ table-rows c.read_rows-rows.ensures c.if-rows-ne0.false
+pub returns-in-Ok : goal.returns-in-Ok
+returns-in-Ok c = c.told_rows.ensures ∙ table-rows c.in-Ok.ensures

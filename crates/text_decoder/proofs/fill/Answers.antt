@@ -1,5 +1,6 @@
 -- `text_decoder::fill` meets its contract: answer and slots owed at each run's start are those owed at the column's. Assumes nothing.
 use mathlib.Core.Path.{refl}
+use Rattle.std.proofs.lemmas.Result.{err_from_is_err_and}
 use Rattle.encoding.specs.Column.{spot}
 use Rattle.encoding.specs.Slots.{flag_of}
 use Rattle.encoding.proofs.Via.{via}
@@ -28,25 +29,26 @@ fill_run-requires c =
 
 pub loop-at-smaller : goal.loop-at-smaller
 loop-at-smaller c =
-    (names _).falls _ _ (via step_of c.fill_run.ensures.result_value c.in-On.is)
+    (names _).falls _ _ (via step_of c.fill_run.ensures.result_value c.in_ok-next.was)
 
 pub loop-at-preserved : goal.loop-at-preserved
 loop-at-preserved c =
     let o = c.loop-at.invariant in
     let w = c.fill_run.ensures in
-    let e = via step_of w.result_value c.in-On.is in (
+    let e = via step_of w.result_value c.in_ok-next.was in (
       owed-on (names _) start_of flag_of (spot 0 0) refl _ _ _ _ _ o.0 _ _ _ w.wrote e,
       owed-on (names _) length_of flag_of (spot 0 0) refl _ _ _ _ _ o.1 _ _ _ w.wrote_2 e,
     )
 
-pub returns-in-Off : goal.returns-in-Off
-returns-in-Off c =
+pub returns-in_err-next : goal.returns-in_err-next
+returns-in_err-next c =
+    let p = err_from_is_err_and c.from_residual.result c.from_residual.ensures.1 in
     let o = c.loop-at.invariant in
     let w = c.fill_run.ensures in
-    let e = via step_of w.result_value c.in-Off.is in
+    let e = via step_of w.result_value c.in_err-next.was in
     let u = owed-off (names _) start_of flag_of (spot 0 0) refl _ _ _ _ _ o.0 _ _ _ _ w.wrote e in
     let v = owed-off (names _) length_of flag_of (spot 0 0) refl _ _ _ _ _ o.1 _ _ _ _ w.wrote_2 e in
-    rw (trace-rest text_e text-laws) (record { result_value = u.0; wrote = u.1; wrote_2 = v.1 })
+    rw (p.1, p.2) (rw (trace-rest text_e text-laws) (record { result_value = u.0; wrote = u.1; wrote_2 = v.1 }))
 
 pub shape_of-starts : goal.shape_of-starts
 shape_of-starts c = c.loop-at.invariant.0.same-v

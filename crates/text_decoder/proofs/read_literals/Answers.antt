@@ -12,7 +12,7 @@ loop-read-init c = so-far-start text_e _ _ _
 
 pub overflow_add-at : goal.overflow_add-at
 overflow_add-at c =
-    let r = via (name_of c.args.s.now) c.name_at.ensures c.in-Found.is in
+    let r = via (name_of c.args.s.now) c.name_at.ensures c.in-Ok.is in
     omega (arith, text-laws.within _ _ _ _ r)
 
 pub overflow_add-read : goal.overflow_add-read
@@ -23,12 +23,12 @@ loop-read-smaller c = omega arith
 
 pub loop-read-preserved : goal.loop-read-preserved
 loop-read-preserved c =
-    let r = via (name_of c.args.s.now) c.name_at.ensures c.in-Found.is in
+    let r = via (name_of c.args.s.now) c.name_at.ensures c.in-Ok.is in
     so-far-on text_e _ _ _ _ _ c.loop-read.invariant _ _ c.loop-read-test.true r
 
-pub returns-in-Refused : goal.returns-in-Refused
-returns-in-Refused c =
-    let r = via (name_of c.args.s.now) c.name_at.ensures c.in-Refused.is in
+pub returns-in-Err : goal.returns-in-Err
+returns-in-Err c =
+    let r = via (name_of c.args.s.now) c.name_at.ensures c.in-Err.is in
     so-far-off text_e _ _ _ _ _ c.loop-read.invariant _ _ c.loop-read-test.true r
 
 pub returns : goal.returns

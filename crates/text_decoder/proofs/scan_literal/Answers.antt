@@ -1,6 +1,7 @@
 -- `text_decoder::scan_literal` meets its contract: what follows the values still to come is what follows them all. Assumes nothing.
 use mathlib.Core.Path.{refl, sym, ◌∙◌}
 use native.Mathlib.Omega.{arith}
+use Rattle.std.proofs.lemmas.Result.{err_from_is_err_and}
 use Rattle.encoding.proofs.Via.{via}
 use Rattle.encoding.proofs.Walking.{next-eq}
 use Rattle.encoding.proofs.Columns.{literals-on, literals-off, literals-none}
@@ -14,7 +15,7 @@ loop-left-init c = refl
 
 pub overflow_add-at : goal.overflow_add-at
 overflow_add-at c =
-    let r = via (name_of c.args.s.now) c.name_at.ensures c.in-Found.is in
+    let r = via (name_of c.args.s.now) c.name_at.ensures c.in_ok-first.was in
     omega (arith, text-laws.within _ _ _ _ r)
 
 pub overflow_sub-left : goal.overflow_sub-left
@@ -25,13 +26,14 @@ loop-left-smaller c = omega arith
 
 pub loop-left-preserved : goal.loop-left-preserved
 loop-left-preserved c =
-    let r = via (name_of c.args.s.now) c.name_at.ensures c.in-Found.is in
+    let r = via (name_of c.args.s.now) c.name_at.ensures c.in_ok-first.was in
     c.loop-left.invariant ∙ next-eq (literals-on text_e _ _ _ _ _ _ c.loop-left-test.true r)
 
-pub returns-in-Refused : goal.returns-in-Refused
-returns-in-Refused c =
-    let r = via (name_of c.args.s.now) c.name_at.ensures c.in-Refused.is in
-    sym (c.loop-left.invariant ∙ next-eq (literals-off text_e _ _ _ _ _ _ c.loop-left-test.true r))
+pub returns-in_err-first : goal.returns-in_err-first
+returns-in_err-first c =
+    let p = err_from_is_err_and c.from_residual.result c.from_residual.ensures.1 in
+    let r = via (name_of c.args.s.now) c.name_at.ensures c.in_err-first.was in
+    rw (p.1, p.2) (sym (c.loop-left.invariant ∙ next-eq (literals-off text_e _ _ _ _ _ _ c.loop-left-test.true r)))
 
 pub returns : goal.returns
 returns c = sym (c.loop-left.invariant ∙ next-eq (literals-none text_e _ _ _ _ c.loop-left-test.false))

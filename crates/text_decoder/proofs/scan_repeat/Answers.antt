@@ -1,6 +1,7 @@
 -- `text_decoder::scan_repeat` meets its contract: the value was read, or its refusal passed on. Assumes nothing.
 use mathlib.Core.Path.{sym}
 use native.Mathlib.Omega.{arith}
+use Rattle.std.proofs.lemmas.Result.{err_from_is_err_and}
 use Rattle.encoding.proofs.Via.{via}
 use Rattle.encoding.proofs.Walking.{next-eq}
 use Rattle.encoding.proofs.Columns.{repeated-got, repeated-bad}
@@ -10,18 +11,19 @@ use Rattle.text_decoder.proofs.scan_repeat.Goals as goal
 
 pub overflow_add-result : goal.overflow_add-result
 overflow_add-result c =
-    let r = via (name_of c.args.s.now) c.name_at.ensures c.in-Found.is in
+    let r = via (name_of c.args.s.now) c.name_at.ensures c.in_ok-start.was in
     omega (arith, text-laws.within _ _ _ _ r)
 
-pub overflow_add-result-in-Found : goal.overflow_add-result-in-Found
-overflow_add-result-in-Found c = omega arith
+pub overflow_add-result-2 : goal.overflow_add-result-2
+overflow_add-result-2 c = omega arith
 
-pub returns-in-Found : goal.returns-in-Found
-returns-in-Found c =
-    let r = via (name_of c.args.s.now) c.name_at.ensures c.in-Found.is in
+pub returns : goal.returns
+returns c =
+    let r = via (name_of c.args.s.now) c.name_at.ensures c.in_ok-start.was in
     sym (next-eq (repeated-got _ _ _ _ _ _ r))
 
-pub returns-in-Refused : goal.returns-in-Refused
-returns-in-Refused c =
-    let r = via (name_of c.args.s.now) c.name_at.ensures c.in-Refused.is in
-    sym (next-eq (repeated-bad _ _ _ _ _ _ r))
+pub returns-in_err-start : goal.returns-in_err-start
+returns-in_err-start c =
+    let p = err_from_is_err_and c.from_residual.result c.from_residual.ensures.1 in
+    let r = via (name_of c.args.s.now) c.name_at.ensures c.in_err-start.was in
+    rw (p.1, p.2) (sym (next-eq (repeated-bad _ _ _ _ _ _ r)))

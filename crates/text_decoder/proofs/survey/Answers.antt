@@ -19,11 +19,11 @@ pub scan_run-requires : goal.scan_run-requires
 scan_run-requires c = record { at_in_bounds = search rules; table_value = c.short_numbers-table.ensures }
 
 pub loop-at-smaller : goal.loop-at-smaller
-loop-at-smaller c = (names _).falls _ _ (via step_of c.scan_run.ensures c.in-On.is)
+loop-at-smaller c = (names _).falls _ _ (via step_of c.scan_run.ensures c.in-Ok.is)
 
 pub loop-at-preserved : goal.loop-at-preserved
 loop-at-preserved c =
-    let e = via step_of c.scan_run.ensures c.in-On.is in
+    let e = via step_of c.scan_run.ensures c.in-Ok.is in
     ((names _).capped _ _ e, c.loop-at.invariant.1 ∙ surveys-on (names _) _ _ e)
 
 pub read_run-read-requires : goal.read_run-read-requires
@@ -32,9 +32,9 @@ read_run-read-requires c = record { at_in_bounds = search rules; table_value = c
 pub overflow_add-result : goal.overflow_add-result
 overflow_add-result c = omega (arith, c.read_run-read.ensures.result_bound)
 
-pub returns-in-Off : goal.returns-in-Off
-returns-in-Off c =
-    let e = via step_of c.scan_run.ensures c.in-Off.is in
+pub returns-in-Err : goal.returns-in-Err
+returns-in-Err c =
+    let e = via step_of c.scan_run.ensures c.in-Err.is in
     rw (trace-rest text_e text-laws)
     (sym (surveys-start (names _) _ refl ∙ c.loop-at.invariant.1 ∙ surveys-off (names _) _ _ _ _ e c.read_run-read.ensures.value))
 

@@ -1,6 +1,7 @@
 -- `text_salvage::salvage` meets its contract: each way out is a case of its definition. Assumes nothing.
 use native.Mathlib.Omega.{arith}
 use borrow.Author.Tests.{eq-eqb, ne_eqb}
+use Rattle.std.proofs.lemmas.Result.{err_from_is_err_and}
 use Rattle.encoding.specs.Cases.{answer_of}
 use Rattle.encoding.specs.Column.{trace}
 use Rattle.encoding.proofs.Via.{via}
@@ -39,16 +40,17 @@ returns-then-lens-found c =
 pub save-requires : goal.save-requires
 save-requires c =
     let s = c.args.s.now in
-    let k = fresh-size s _ c.survey-found.ensures (via answer_of c.rewritten_len.ensures c.in-Done.is) in
+    let k = fresh-size s _ c.survey-found.ensures (via answer_of c.rewritten_len.ensures c.in_ok-size.was) in
     record { found_value = (c.survey-found.ensures, omega (arith, c.if-lens-found.false)); starts_len = (c.if-starts-lens.false, c.if-lens-present.false); size_value = k }
 
-pub returns-in-Done : goal.returns-in-Done
-returns-in-Done c =
+pub returns : goal.returns
+returns c =
     save-served (eq-eqb c.args.typ 5 c.if-typ-ne5.false) c.save.ensures
 
-pub returns-in-Refused : goal.returns-in-Refused
-returns-in-Refused c =
+pub returns-in_err-size : goal.returns-in_err-size
+returns-in_err-size c =
     let a = c.args in
-    let q = via answer_of c.rewritten_len.ensures c.in-Refused.is in
-    save-short a.s.now a.starts.now a.lens.now a.present.now a.out.now c.if-starts-lens.false c.if-lens-present.false _
-    c.survey-found.ensures (omega (arith, c.if-lens-found.false)) (eq-eqb a.typ 5 c.if-typ-ne5.false) q
+    let p = err_from_is_err_and c.from_residual.result c.from_residual.ensures.1 in
+    let q = via answer_of c.rewritten_len.ensures c.in_err-size.was in
+    rw (p.1, p.2) (save-short a.s.now a.starts.now a.lens.now a.present.now a.out.now c.if-starts-lens.false c.if-lens-present.false _
+    c.survey-found.ensures (omega (arith, c.if-lens-found.false)) (eq-eqb a.typ 5 c.if-typ-ne5.false) q)

@@ -2,6 +2,7 @@
 use Prim.Native.Nat.{ℕ, ◌<◌}
 use native.Mathlib.Omega.{arith}
 use lib.ListN.{get_or}
+use Rattle.encoding.specs.Survivors.{seen}
 use Rattle.text_salvage.proofs.Keeping.{save-done}
 use Rattle.text_salvage.proofs.save.Goals as goal
 
@@ -10,6 +11,6 @@ returns c =
     let a = c.args in
     let p = c.requires in
     let s = a.s.now in
-    let B : (j : ℕ) → get_or s j 0 < 256 = λ j. omega (arith, c.shared_slice_known-1.given j) in
-    save-done s a.starts.now a.lens.now a.present.now a.out.now p.starts_len.0 p.starts_len.1 a.found p.found_value.0 p.found_value.1
-    B a.size p.size_value.0 p.size_value.1 _ _ _ _ _ _ c.keep.ensures c.put_kept.ensures
+    let B : (j : ℕ) → get_or s j 0 < 256 = λ j. omega (arith, c.type_inv.s j) in
+    save-done s a.starts.now a.lens.now a.present.now a.out.now p.starts_len.0 p.starts_len.1 (seen a.found) p.found_value.0 p.found_value.1
+    B a.size p.size_value.0 p.size_value.1 _ _ _ _ _ _ c.keep.ensures c.encode.ensures

@@ -6,7 +6,7 @@ use Rattle.leb128.specs.Got.{got}
 use mir.Syntax.{w64}
 use mir.Val.{SFits}
 use borrow.Author.Rules.{rules}
-use Rattle.leb128.specs.Cases.{i64_of}
+use Rattle.leb128.specs.Cases.{parsed_of}
 use Rattle.leb128.proofs.Twos.{same}
 use Rattle.encoding.proofs.Via.{via}
 use Rattle.reason.specs.Reason.{signed_count}
@@ -17,12 +17,12 @@ any-next : (x : ℤ) (a b : ℕ) → signed_count (got x a) ≡ signed_count (go
 any-next (pos n) a b = refl
 any-next (negsuc n) a b = refl
 
-pub returns-in-Number : goal.returns-in-Number
-returns-in-Number c =
-    let x = c.in-Number.c in
+pub returns-in-Ok : goal.returns-in-Ok
+returns-in-Ok c =
+    let x = c.in-Ok.c in
     let f : SFits w64 x = search rules in
-    let r = via i64_of c.leb128_i64.ensures c.in-Number.is in
+    let r = via parsed_of c.leb128_i64.ensures c.in-Ok.is in
     rw (same x f) at c.signed_count.ensures ∙ any-next x 0 _ ∙ sym (ap signed_count r)
 
-pub returns-in-Refused : goal.returns-in-Refused
-returns-in-Refused c = sym (ap signed_count (via i64_of c.leb128_i64.ensures c.in-Refused.is))
+pub returns-in-Err : goal.returns-in-Err
+returns-in-Err c = sym (ap signed_count (via parsed_of c.leb128_i64.ensures c.in-Err.is))

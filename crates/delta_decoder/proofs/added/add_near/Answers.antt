@@ -14,16 +14,15 @@ use Rattle.leb128.specs.Short.{entry_of}
 use Rattle.leb128.proofs.Lookup.{rule}
 use Rattle.leb128.proofs.Twos.{same_byte}
 use Rattle.delta_decoder.specs.Added.{adding, over_mark, Nearly, NearBytes}
-use Rattle.delta_decoder.specs.declared.added.Near.{Near}
-use Rattle.delta_decoder.specs.declared.added.Near.TheVariants as variant
+use Rattle.std.specs.Prelude as code
 use Rattle.delta_decoder.proofs.Adding.{near-alone, near-paired}
 use Rattle.delta_decoder.proofs.added.add_near.Goals as goal
 
 says : (s : List ℕ) (at n : ℕ) → suc at < length s → get_or s at 0 < 256 → 16384 ≤ n → n + 16384 < 2 ^ 64
-    → (r : Near) → NearBytes (get_or s at 0) (get_or s (suc at) 0) (suc at) n r → Nearly r (adding n at (i64_at s at))
-says s at n h w f t variant.Other x = tt
-says s at n h w f t (variant.To m next) (inl x) = near-alone s at n f t (omega arith) x.short x.sum ∙ ap (got m) (omega (arith, x.end))
-says s at n h w f t (variant.To m next) (inr x) =
+    → (r : code.Option (ℕ × ℕ)) → NearBytes (get_or s at 0) (get_or s (suc at) 0) (suc at) n r → Nearly r (adding n at (i64_at s at))
+says s at n h w f t code.None x = tt
+says s at n h w f t (code.Some (m, next)) (inl x) = near-alone s at n f t (omega arith) x.short x.sum ∙ ap (got m) (omega (arith, x.end))
+says s at n h w f t (code.Some (m, next)) (inr x) =
     near-paired s at n f t h x.first w x.last x.strict x.sum ∙ ap (got m) (omega (arith, x.end))
 
 pub near_bytes-requires : goal.near_bytes-requires

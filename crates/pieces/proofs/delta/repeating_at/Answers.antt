@@ -7,6 +7,7 @@ use mir.Syntax.{w64}
 use mir.Val.{SFits, to_z, of_z}
 use mir.ValLaws.{to_z-of_z}
 use Rattle.delta_decoder.specs.Sofar.{times_held}
+use Rattle.pieces.specs.Cases.{delta_read}
 use Rattle.pieces.proofs.Repeating.{times-most, times-again, held-behind}
 use Rattle.pieces.proofs.DeltaPieces.{repeating-by}
 use Rattle.pieces.proofs.delta.repeating_at.Goals as goal
@@ -47,4 +48,4 @@ returns c =
     let h = rw (to_z-of_z w64 k.difference fd) at c.times_held-more.ensures in
     let g = rw (to_z-of_z w64 k.difference fd) at c.added.ensures in
     let f = held-behind k.difference k.sum k.left c.kept_as-n.result m c.added.result (omega arith) e h g in
-    rw (to_z-of_z w64 k.difference fd, to_z-of_z w64 y fy) (sym (repeating-by k a.answer m (m + 1) y f.0 (c.sum_of-sum.ensures ∙ f.1) t))
+    rw (to_z-of_z w64 k.difference fd, to_z-of_z w64 y fy) (sym (repeating-by k (delta_read a.reading) m (m + 1) y f.0 (c.sum_of-sum.ensures ∙ f.1) t))

@@ -1,30 +1,28 @@
 -- `pieces::rle::piece` meets its contract: by what the step answers. Assumes nothing.
 use Prim.Native.Nat.{◌^◌, ◌<◌}
-use mathlib.Core.Path.{sym, ◌∙◌, ap}
+use mathlib.Core.Path.{◌≡◌, sym, ◌∙◌, ap}
 use native.Mathlib.Omega.{arith}
-use Rattle.pieces.proofs.RlePieces.{is_reading, took, left-fits}
+use Rattle.std.specs.Prelude.{Ok, Some, None}
+use Rattle.rle_cursor.specs.Cases.{answer_of}
+use Rattle.pieces.proofs.RlePieces.{is_reading, read, took, took-read, left-fits}
 use Rattle.pieces.proofs.rle.piece.Goals as goal
 
 pub standing_at-requires : goal.standing_at-requires
 standing_at-requires c =
     let k = c.args.cursor in
     let l : k.left < 2 ^ 64 = omega arith in
-    left-fits _ k l c.step-r.ensures (ap is_reading c.in-Present.is)
+    let r : c.step-r.result.answer ≡ Ok (Some c.in-Ok-Some.reading) = c.in-Ok-Some.is ∙ ap Ok (rw c.in-Ok-Some.is at c.in-Ok-Some.field-0-is) in
+    left-fits _ k l c.step-r.ensures (ap (λ a. is_reading (answer_of a)) r ∙ read c.in-Ok-Some.reading)
 
-pub standing_at-requires-in-Absent : goal.standing_at-requires-in-Absent
-standing_at-requires-in-Absent c =
-    let k = c.args.cursor in
-    let l : k.left < 2 ^ 64 = omega arith in
-    left-fits _ k l c.step-r.ensures (ap is_reading c.in-Absent.is)
+pub returns-in-Ok-Some : goal.returns-in-Ok-Some
+returns-in-Ok-Some c =
+    let r : c.step-r.result.answer ≡ Ok (Some c.in-Ok-Some.reading) = c.in-Ok-Some.is ∙ ap Ok (rw c.in-Ok-Some.is at c.in-Ok-Some.field-0-is) in
+    c.standing_at.ensures ∙ sym (took-read _ c.args.cursor c.step-r.ensures r)
 
-pub returns-in-Present : goal.returns-in-Present
-returns-in-Present c = c.standing_at.ensures ∙ sym (took _ c.args.cursor c.step-r.ensures c.in-Present.is)
+pub returns-in-Ok-None : goal.returns-in-Ok-None
+returns-in-Ok-None c =
+    let r : c.step-r.result.answer ≡ Ok None = c.in-Ok-None.is ∙ ap Ok (rw c.in-Ok-None.is at c.in-Ok-None.field-0-is) in
+    sym (took _ c.args.cursor c.step-r.ensures (ap answer_of r))
 
-pub returns-in-Absent : goal.returns-in-Absent
-returns-in-Absent c = c.standing_at-in-Absent.ensures ∙ sym (took _ c.args.cursor c.step-r.ensures c.in-Absent.is)
-
-pub returns-in-End : goal.returns-in-End
-returns-in-End c = c.none_at.ensures ∙ sym (took _ c.args.cursor c.step-r.ensures c.in-End.is)
-
-pub returns-in-Refused : goal.returns-in-Refused
-returns-in-Refused c = c.none_at-in-Refused.ensures ∙ sym (took _ c.args.cursor c.step-r.ensures c.in-Refused.is)
+pub returns-in-Err : goal.returns-in-Err
+returns-in-Err c = sym (took _ c.args.cursor c.step-r.ensures (ap answer_of c.in-Err.is))

@@ -1,7 +1,7 @@
 -- `rewriting::cutter::fed` meets its contract: no reading, one like the held one, or another, for which the held one is closed. Assumes nothing.
 use mathlib.Core.Path.{◌∙◌}
 use native.Mathlib.Omega.{arith}
-use Rattle.rewriting.specs.Values.{is_value}
+use Rattle.std.specs.Prelude.{is_some}
 use Rattle.rewriting.proofs.Closing.{either-yes, either-no, fed-none, fed-same, fed-other}
 use Rattle.rewriting.proofs.cutter.fed.Goals as goal
 use Rattle.rewriting.proofs.cutter.fed.Goals.{else-c, then-c}
@@ -14,9 +14,9 @@ pub returns-then-same_held : goal.returns-then-same_held
 returns-then-same_held c =
     let a = c.args in
     let p = c.requires in
-    let v = c.is_value-on.ensures in
-    let yes = either-yes a.c.any (is_value a.held) in
-    let no = either-no a.c.any (is_value a.held) in
+    let v = c.is_some-on.ensures in
+    let yes = either-yes a.c.any (is_some a.held) in
+    let no = either-no a.c.any (is_some a.held) in
     let e = c.same_held.ensures in
     record {
       result_value = fed-same a.s.now a.room a.c a.held a.n c.if-n-eq0.false e
@@ -28,8 +28,8 @@ pub returns-then-c-2 : goal.returns-then-c-2
 returns-then-c-2 c =
     let a = c.args in
     let p = c.requires in
-    let v = c.is_value-on.ensures in
-    let i = either-yes a.c.any (is_value a.held) c.if-c-2.true in
+    let v = c.is_some-on.ensures in
+    let i = either-yes a.c.any (is_some a.held) c.if-c-2.true in
     let e = c.same_held.ensures in
     let d = c.closed-d.ensures in
     record { result_value = fed-other a.s.now a.room a.c a.held a.n c.if-n-eq0.false e i c.if-same_held.false v d.result_value; within = (p.1, omega arith) }
@@ -38,8 +38,8 @@ pub returns-else-c-2 : goal.returns-else-c-2
 returns-else-c-2 c =
     let a = c.args in
     let p = c.requires in
-    let v = c.is_value-on.ensures in
-    let i = either-no a.c.any (is_value a.held) c.if-c-2.false v in
+    let v = c.is_some-on.ensures in
+    let i = either-no a.c.any (is_some a.held) c.if-c-2.false v in
     let e = c.same_held.ensures in
     let d = c.closed-d.ensures in
     record { result_value = fed-other a.s.now a.room a.c a.held a.n c.if-n-eq0.false e i c.if-same_held.false v d.result_value; within = (p.1, omega arith) }

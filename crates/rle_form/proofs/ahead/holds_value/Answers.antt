@@ -11,20 +11,20 @@ same_parts-requires c =
     let a = c.args in
     let p = c.requires in
     let L = element_laws a.values in
-    let x = part-within _ L a.s.now _ _ (within-as _ L a.s.now a.held _ _ c.in-Value.is p.0) in
+    let x = part-within _ L a.s.now _ _ (within-as _ L a.s.now a.held _ _ c.in-Some.is p.0) in
     let y = part-within _ L a.s.now a.from a.till p.1 in
     (x.0, x.1, y.0, y.1)
 
-pub returns-in-Absent : goal.returns-in-Absent
-returns-in-Absent c =
+pub returns-in-None : goal.returns-in-None
+returns-in-None c =
     let a = c.args in
-    alike-absent _ (element_laws a.values) a.s.now a.s.now a.held a.from a.till c.requires.1 c.in-Absent.is
+    alike-absent _ (element_laws a.values) a.s.now a.s.now a.held a.from a.till c.requires.1 c.in-None.is
 
-pub returns-in-Value : goal.returns-in-Value
-returns-in-Value c =
+pub returns-in-Some : goal.returns-in-Some
+returns-in-Some c =
     let a = c.args in
     let p = c.requires in
     let L = element_laws a.values in
-    let B : (j : ℕ) → get_or a.s.now j 0 < 256 = λ j. omega (arith, c.shared_slice_known-1.given j) in
-    let w = within-as _ L a.s.now a.held _ _ c.in-Value.is p.0 in
-    alike-parts _ L a.s.now a.s.now a.held a.from a.till p.1 B B _ _ c.in-Value.is w c.same_parts.ensures
+    let B : (j : ℕ) → get_or a.s.now j 0 < 256 = λ j. omega (arith, (c.type_inv.s j).fits) in
+    let w = within-as _ L a.s.now a.held _ _ c.in-Some.is p.0 in
+    alike-parts _ L a.s.now a.s.now a.held a.from a.till p.1 B B _ _ c.in-Some.is w c.same_parts.ensures

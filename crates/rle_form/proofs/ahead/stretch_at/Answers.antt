@@ -2,7 +2,6 @@
 use Rattle.runs.specs.Values.{element_of}
 use Rattle.runs.proofs.Ends.{element_laws}
 use Rattle.runs.proofs.Held.{absent-true, absent-false}
-use Rattle.encoding.proofs.Cutting.{behind-few}
 use Rattle.rle_form.proofs.Looked.{found-absent, found-repeat, found-literal}
 use Rattle.rle_form.proofs.ahead.stretch_at.Goals as goal
 
@@ -21,13 +20,6 @@ returns-then-run-ge2 c =
     let k = c.same_run-run.ensures in
     found-repeat (element_of a.values).E (element_laws a.values) a.s.now a.p p.0 _ _ k.same_run
     (absent-false _ _ c.is_absent.ensures c.if-is_absent.false) c.if-run-ge2.true
-
-pub literal_run-lone-requires : goal.literal_run-lone-requires
-literal_run-lone-requires c =
-    let a = c.args in
-    let p = c.requires in
-    let k = c.same_run-run.ensures in
-    (k.going, behind-few _ (element_laws a.values) _ _ _ _ k.same_run _ p.2)
 
 pub returns : goal.returns
 returns c =

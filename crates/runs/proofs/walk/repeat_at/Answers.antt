@@ -7,16 +7,16 @@ use Rattle.runs.specs.declared.walk.Piece.{Piece}
 use Rattle.runs.proofs.Walked.{onto-repeat, onto-unread}
 use Rattle.runs.proofs.walk.repeat_at.Goals as goal
 
-pub returns-in-At : goal.returns-in-At
-returns-in-At c =
+pub returns-in-Ok : goal.returns-in-Ok
+returns-in-Ok c =
     let a = c.args in
-    let r = ended a.values a.s.now a.q c.value_end.ensures c.in-At.is in
+    let r = ended a.values a.s.now a.q c.value_end.ensures c.in-Ok.is in
     let m = end-near a.values a.s.now a.q _ r in
     record { onto = onto-repeat _ (element_laws a.values) a.s.now a.q a.had a.n _ r.0 r.1; at_in_bounds = omega (arith, m.0, m.1) }
 
-pub returns-in-Refused : goal.returns-in-Refused
-returns-in-Refused c =
+pub returns-in-Err : goal.returns-in-Err
+returns-in-Err c =
     let a = c.args in
     let e = c.before_run.ensures in
-    let r = ended a.values a.s.now a.q c.value_end.ensures c.in-Refused.is in
+    let r = ended a.values a.s.now a.q c.value_end.ensures c.in-Err.is in
     record { onto = subst (Onto _ _ _) (sym e) (onto-unread _ (element_laws a.values) a.s.now a.q a.had a.n _ _ r); at_in_bounds = omega (arith, ap (λ (p : Piece). p.at) e) }

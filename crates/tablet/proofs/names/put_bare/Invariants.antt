@@ -1,10 +1,9 @@
--- `tablet::names::put_bare` is safe and ends. The measure is the number of turns that are left. Assumes nothing.
-use mathlib.Core.Path.{◌≡◌}
-use lib.ListN.{length}
+-- `tablet::names::put_bare` is safe and ends. The measure is what is left of the text. Assumes nothing.
+use Rattle.std.proofs.Common.{◌≡◌, length}
 use Rattle.tablet.proofs.names.put_bare.Given as goal
 
-abbrev pub invariant-loop-turns : goal.invariant-loop-turns
-invariant-loop-turns l = length l.out ≡ length l.initial.out
+abbrev pub invariant-loop-rest : goal.invariant-loop-rest
+invariant-loop-rest l = length l.out ≡ length l.initial.out
 
-abbrev pub decreases-loop-turns : goal.decreases-loop-turns
-decreases-loop-turns l = l.turns
+abbrev pub decreases-loop-rest : goal.decreases-loop-rest
+decreases-loop-rest l = length l.rest

@@ -5,7 +5,7 @@ use lib.ListN.{length}
 use Rattle.encoding.proofs.Via.{via}
 use Rattle.text.specs.Text.{text_e}
 use Rattle.text.specs.Given.{name_list}
-use Rattle.encoding.specs.Cases.{size_of}
+use Rattle.encoding.specs.Cases.{maybe_of}
 use Rattle.encoding.proofs.Fits.{is-fit, sum_is, sum-beyond, owed_start, owed-on, owed-beyond, owed-end}
 use Rattle.text_encoder.proofs.Passing.{walk-over}
 use Rattle.encoding.proofs.Written.{cut-length, cut-shorter, cut-over}
@@ -27,19 +27,17 @@ stretch_len-requires c =
     let p = c.requires in
     record { pairs = p.pairs; «at» = h.0; s_len_bound = h.1; times_nonzero = (c.loop-walk-test.true, e.whole); stretch_nonzero = (e.later, e.within) }
 
-pub returns-in-Beyond-sum : goal.returns-in-Beyond-sum
-returns-in-Beyond-sum c =
-    let f = c.stretch_len.ensures in
-    let m = sym (via size_of f c.in-Is.is) in
+pub returns-in_err-m : goal.returns-in_err-m
+returns-in_err-m c =
     let h = c.loop-walk.invariant in
-    let b = sum_is _ _ _ m (sym (via size_of c.sum.ensures c.in-Beyond-sum.is)) in
-    owed-beyond _ _ h.3 _ _ (cut-length text_e c.stretch_at-found.ensures.cut_of) b
+    let b = sum-beyond _ _ c.in_err-m.ensures in
+    rw c.from_residual.ensures (owed-beyond _ _ h.3 _ _ (cut-length text_e c.stretch_at-found.ensures.cut_of) b)
 
-pub returns-in-Beyond : goal.returns-in-Beyond
-returns-in-Beyond c =
+pub returns-in_err-n : goal.returns-in_err-n
+returns-in_err-n c =
     let h = c.loop-walk.invariant in
-    let b = sum-beyond _ _ (sym (via size_of c.stretch_len.ensures c.in-Beyond.is)) in
-    owed-beyond _ _ h.3 _ _ (cut-length text_e c.stretch_at-found.ensures.cut_of) b
+    let b = sum_is _ _ _ c.in_ok-m.ensures c.in_err-n.ensures in
+    rw c.from_residual-in_err-n.ensures (owed-beyond _ _ h.3 _ _ (cut-length text_e c.stretch_at-found.ensures.cut_of) b)
 
 pub loop-walk-smaller : goal.loop-walk-smaller
 loop-walk-smaller c = cut-shorter text_e c.stretch_at-found.ensures.cut_of
@@ -48,9 +46,7 @@ pub loop-walk-preserved : goal.loop-walk-preserved
 loop-walk-preserved c =
     let h = c.loop-walk.invariant in
     let e = c.stretch_at-found.ensures in
-    let f = c.stretch_len.ensures in
-    let m = sym (via size_of f c.in-Is.is) in
-    let k = sum_is _ _ _ m (sym (via size_of c.sum.ensures c.in-Is-sum.is)) in
+    let k = sum_is _ _ _ c.in_ok-m.ensures c.in_ok-n.ensures in
     (e.at_2, omega (arith, cut-shorter text_e e.cut_of, h.1), omega (arith, is-fit _ _ k), owed-on _ _ h.3 _ _ (cut-length text_e e.cut_of) k)
 
 pub returns : goal.returns

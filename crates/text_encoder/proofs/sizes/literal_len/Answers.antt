@@ -5,7 +5,7 @@ use lib.ListN.{length}
 use Rattle.encoding.proofs.Via.{via}
 use Rattle.text.specs.Text.{text_e}
 use Rattle.text.specs.Given.{name_list}
-use Rattle.encoding.specs.Cases.{size_of}
+use Rattle.encoding.specs.Cases.{maybe_of}
 use Rattle.encoding.proofs.Fits.{is-fit, owed-on, owed-beyond, owed-end}
 use Rattle.text_encoder.proofs.Passing.{walk_first, walk-size, walk-there}
 use Rattle.encoding.proofs.Written.{values-over}
@@ -14,8 +14,8 @@ use Rattle.text_encoder.proofs.sizes.literal_len.Goals as goal
 pub loop-left-init : goal.loop-left-init
 loop-left-init c = (c.requires.«at», c.requires.k_in_bounds, omega arith, refl)
 
-pub returns-in-Beyond : goal.returns-in-Beyond
-returns-in-Beyond c =
+pub returns-in_err-n : goal.returns-in_err-n
+returns-in_err-n c =
     let a = c.args in
     let w = c.loop-left.walk in
     let h = c.loop-left.invariant in
@@ -23,7 +23,7 @@ returns-in-Beyond c =
     let new = name_list a.bytes.now a.starts.now a.lens.now a.present.now in
     let f = walk_first a.column.now a.bytes.now new w (walk-there a.column.now a.bytes.now new w h.0 (omega arith)) in
     let z = walk-size a.column.now a.bytes.now new w c.loop-left.left _ l h.0.within f in
-    owed-beyond _ _ h.3 _ _ z (sym (via size_of c.counted.ensures c.in-Beyond.is))
+    rw c.from_residual.ensures (owed-beyond _ _ h.3 _ _ z c.in_err-n.ensures)
 
 pub stepped-walk-requires : goal.stepped-walk-requires
 stepped-walk-requires c =
@@ -41,7 +41,7 @@ loop-left-preserved c =
     let h = c.loop-left.invariant in
     let l = c.loop-left-test.true in
     let t = c.stepped-walk.ensures in
-    let m = sym (via size_of c.counted.ensures c.in-Is.is) in
+    let m = c.in_ok-n.ensures in
     let new = name_list a.bytes.now a.starts.now a.lens.now a.present.now in
     let z = walk-size a.column.now a.bytes.now new w c.loop-left.left _ l h.0.within t.s_value in
     (t.at_2, omega (arith, ap length t.s_value), omega (arith, is-fit _ _ m), owed-on _ _ h.3 _ _ z m)

@@ -6,12 +6,12 @@ use Rattle.encoding.proofs.Via.{via}
 use Rattle.encoding.proofs.Placing.{placed, not-refused}
 use Rattle.text_encoder.proofs.writing.put_count.Goals as goal
 
-pub returns-in-Next : goal.returns-in-Next
-returns-in-Next c =
+pub returns-in-Ok : goal.returns-in-Ok
+returns-in-Ok c =
     let e = rw (to_z-of_z w64 c.args.c c.ranges.c) at c.put_i64.ensures in
-    placed _ _ _ c.requires _ _ (via written_of e.result_value c.in-Next.is) e.out_after
+    placed _ _ _ c.requires _ _ (via written_of e.result_value c.in-Ok.is) e.out_after
 
-pub returns-in-Refused : goal.returns-in-Refused
-returns-in-Refused c =
+pub returns-in-Err : goal.returns-in-Err
+returns-in-Err c =
     let e = rw (to_z-of_z w64 c.args.c c.ranges.c) at c.put_i64.ensures in
-    absurd (not-refused _ _ _ c.requires _ _ (via written_of e.result_value c.in-Refused.is))
+    absurd (not-refused _ _ _ c.requires _ _ (via written_of e.result_value c.in-Err.is))

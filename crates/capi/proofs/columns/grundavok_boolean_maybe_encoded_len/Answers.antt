@@ -1,7 +1,0 @@
--- `capi::columns::grundavok_boolean_maybe_encoded_len` meets its contract. Assumes nothing.
-use mathlib.Core.Path.{ap, ◌∙◌}
-use Rattle.capi.specs.Cases.{counted}
-use Rattle.capi.proofs.columns.grundavok_boolean_maybe_encoded_len.Goals as goal
-
-pub returns : goal.returns
-returns c = c.answer.ensures ∙ ap counted c.maybe_encoded_len.ensures

@@ -1,7 +1,0 @@
--- `capi::columns::grundavok_rle_count` meets its contract. Assumes nothing.
-use mathlib.Core.Path.{ap, ◌∙◌}
-use Rattle.capi.specs.Cases.{counted}
-use Rattle.capi.proofs.columns.grundavok_rle_count.Goals as goal
-
-pub returns : goal.returns
-returns c = c.answer.ensures ∙ ap counted c.count.ensures

@@ -1,7 +1,0 @@
--- `capi::edits::grundavok_slots_splice_i64` meets its contract. Assumes nothing.
-use mathlib.Core.Path.{ap, ◌∙◌}
-use Rattle.capi.specs.Cases.{counted}
-use Rattle.capi.proofs.edits.grundavok_slots_splice_i64.Goals as goal
-
-pub returns : goal.returns
-returns c = record { value = c.answer.ensures ∙ ap counted c.splice_i64.ensures.result_value; held_after = c.splice_i64.ensures.s_after }

@@ -1,3 +1,0 @@
--- Laws that several functions' proofs cite.
-pub mod Digits
-pub mod Signs

@@ -1,9 +1,0 @@
--- `tablet::around::say_bytes` is safe and ends. The measure is how many bytes are left. Assumes nothing.
-use Prim.Native.Nat.{◌-◌}
-use Rattle.tablet.proofs.around.say_bytes.Given as goal
-
-abbrev pub invariant-loop-i : goal.invariant-loop-i
-invariant-loop-i l = Unit {0}
-
-abbrev pub decreases-loop-i : goal.decreases-loop-i
-decreases-loop-i l = l.e - l.i

@@ -1,9 +1,0 @@
--- `tablet::layer::least` is safe and ends. The measure is how many places are left. Assumes nothing.
-use Prim.Native.Nat.{◌-◌}
-use Rattle.tablet.proofs.layer.least.Given as goal
-
-abbrev pub invariant-loop-i : goal.invariant-loop-i
-invariant-loop-i l = Unit {0}
-
-abbrev pub decreases-loop-i : goal.decreases-loop-i
-decreases-loop-i l = 64 - l.i

@@ -1,9 +1,0 @@
--- `tablet::lists::reading_end` is safe and ends. The measure is what is left of the text. Assumes nothing.
-use Rattle.std.proofs.Common.{◌-◌, length}
-use Rattle.tablet.proofs.lists.reading_end.Given as goal
-
-abbrev pub invariant-loop-i : goal.invariant-loop-i
-invariant-loop-i l = Unit {0}
-
-abbrev pub decreases-loop-i : goal.decreases-loop-i
-decreases-loop-i l = length l.s - l.i

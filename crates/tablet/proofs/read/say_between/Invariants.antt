@@ -1,9 +1,0 @@
--- `tablet::read::say_between` is safe and ends. The measure is how many readings are left. Assumes nothing.
-use Prim.Native.Nat.{◌-◌}
-use Rattle.tablet.proofs.read.say_between.Given as goal
-
-abbrev pub invariant-loop-i : goal.invariant-loop-i
-invariant-loop-i l = Unit {0}
-
-abbrev pub decreases-loop-i : goal.decreases-loop-i
-decreases-loop-i l = l.e - l.i

@@ -1,9 +1,0 @@
--- `tablet::script::split` is safe and ends. The measure is what is left of the line. Assumes nothing.
-use Rattle.std.proofs.Common.{◌≡◌, ◌-◌, ◌+◌, length}
-use Rattle.tablet.proofs.script.split.Given as goal
-
-abbrev pub invariant-loop-i : goal.invariant-loop-i
-invariant-loop-i l = length l.out ≡ length l.initial.out
-
-abbrev pub decreases-loop-i : goal.decreases-loop-i
-decreases-loop-i l = length l.line + 1 - l.i
