@@ -87,8 +87,8 @@ def functions_of(text):
         at = behind(code, body) if code[body] == '{' else body + 1
         within = [of for of, inside in types if match.start() in inside]
         name = '::'.join([owner(of) for of in within] + [match.group(3)])
-        found.append(Function(name, any(of['trait'] for of in within), re.sub(r'\s', '', match.group(1) or ''), bool(match.group(2)), text.count('\n', 0, match.start()) + 1,
-                              match.start(), at, code[match.start():body], code[body:at]))
+        found.append(Function(name, any(of['trait'] for of in within), re.sub(r'\s', '', match.group(1) or ''), bool(match.group(2)),
+                              text.count('\n', 0, match.start()) + 1, match.start(), at, code[match.start():body], code[body:at]))
     return found
 
 
