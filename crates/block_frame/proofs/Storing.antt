@@ -1,9 +1,11 @@
 -- A table's rows, and a column's bytes, as the loops that write them go through them. Assumes nothing.
-use Prim.Native.Nat.{ℕ, ◌+◌, ◌<◌, min}
+use Prim.Native.Nat.{ℕ, suc, ◌+◌, ◌≤◌, ◌<◌, min}
 use mathlib.Core.Path.{◌≡◌, refl, sym, ap, ◌∙◌}
 use mathlib.Core.List.{List, [], ◌∷◌, ◌++◌, append_assoc}
+use native.Mathlib.Numerals.{add-one}
 use native.Mathlib.Omega.{arith}
-use lib.ListN.{length, get_or, drop, length-append, length-drop}
+use lib.ListN.{length, get_or, set, drop, length-append, length-drop, drop_of_length-le}
+use lib.Seq.{sets, drop-cons}
 use Rattle.std.proofs.lemmas.List.{drop_more}
 use Rattle.leb128.specs.Write.{u64_bytes}
 use Rattle.block_frame.specs.Columns.{rows_bytes, table_bytes}
@@ -41,3 +43,18 @@ module _ (specs lens : List ℕ) where
   pub table-length : length (table_bytes specs lens) ≡ length (u64_bytes (length specs)) + length (rows_bytes specs lens)
   unfolding table_bytes
   table-length = length-append (u64_bytes (length specs)) (rows_bytes specs lens)
+
+-- bytes stored one by one
+pub store-start : (out : List ℕ) (at : ℕ) (src : List ℕ) → sets out at src ≡ sets out (at + 0) (drop 0 src)
+store-start out at src = let z : at ≡ at + 0 = omega arith in ap (λ (k : ℕ). sets out k src) z
+
+pub store-next : (out : List ℕ) (at i : ℕ) (src : List ℕ) → i < length src
+    → sets out (at + i) (drop i src) ≡ sets (set out (at + i) (get_or src i 0)) (at + (i + 1)) (drop (i + 1) src)
+store-next out at i src h =
+    let e : suc (at + i) ≡ at + (i + 1) = omega arith in
+    ap (sets out (at + i)) (drop-cons src i 0 h)
+    ∙ ap (λ (k : ℕ). sets (set out (at + i) (get_or src i 0)) k (drop (suc i) src)) e
+    ∙ ap (λ (k : ℕ). sets (set out (at + i) (get_or src i 0)) (at + (i + 1)) (drop k src)) (sym (add-one i))
+
+pub store-end : (out : List ℕ) (at i : ℕ) (src : List ℕ) → length src ≤ i → sets out (at + i) (drop i src) ≡ out
+store-end out at i src h = ap (sets out (at + i)) (drop_of_length-le src h)

@@ -32,9 +32,11 @@ fn put_bytes(out: &mut [u8], at: usize, src: &[u8]) -> usize
     requires { at + length src.now ≤ length out.old }
     ensures { PutAt out.old out.new at result src.now }
 {
-    let end = at + src.len();
-    out[at..end].copy_from_slice(src);
-    end
+    // A loop: of `copy_from_slice` the compiler makes a call of memmove, and hosts lend memcpy and memset alone.
+    for i in 0..src.len() {
+        out[at + i] = src[i];
+    }
+    at + src.len()
 }
 
 // How many bytes rows take.

@@ -134,7 +134,8 @@ fn one_of(lent: BooleanCursor, c: BooleanCursor) -> BooleanStepped
     }
 }
 
-// One step, from any state: the next reading, the end or a refusal, and the state behind it.
+// One step, from any state: the next reading, the end or a refusal, and the state behind it. Where something is left of the present count its
+// reading is answered at once: what is ready is asked only behind it.
 pub fn step(column: &[u8], cursor: BooleanCursor) -> BooleanStepped
     ensures { stepped_of result ≡ step_of column.now cursor }
 {
@@ -149,6 +150,9 @@ pub fn step(column: &[u8], cursor: BooleanCursor) -> BooleanStepped
             cursor: cursor,
             answer: Err(Refusal(Why::BadCursor, 0)),
         };
+    }
+    if 0 < cursor.left {
+        return one_of(cursor, cursor);
     }
     match ready_at(column, cursor) {
         Ok(Some(c)) => one_of(cursor, c),

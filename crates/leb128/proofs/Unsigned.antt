@@ -1,19 +1,23 @@
 -- The loops over an unsigned number of more than one byte. Behind n of its bytes, worth low, where the next counts scale times, its digits
 -- are `onto` the rest's (`Scanned`). That holds behind the first byte (`begun`), a turn keeps it (`turn`), and each way out reads the answer
--- off it (`cut`, `large`, `overlong`, `number`, `tenth`); `tenth-fits` says that nothing wraps at the tenth byte, as `Room` does before it. Assumes
--- nothing.
-use mathlib.Core.Path.{◌≡◌, refl, ap}
-use mathlib.Core.List.{List}
+-- off it (`cut`, `large`, `overlong`, `number`, `tenth`); `tenth-fits` says that nothing wraps at the tenth byte, as `Room` does before it. A number
+-- that begins so is never 0 (`long-nonzero`). Assumes nothing.
+use mathlib.Core.Path.{◌≡◌, refl, ap, ◌∙◌}
+use mathlib.Core.List.{List, [], ◌∷◌}
 use mathlib.Core.Bool.{Bool, true, false, ◌&&◌}
 use Prim.Native.Nat.{ℕ, ◌+◌, ◌*◌, ◌-◌, ◌^◌, ◌≤◌, ◌<◌, min}
 use native.Mathlib.Decide.{dec_lt}
 use native.Mathlib.Omega.{arith}
 use lib.Dec.{ltb, eqb}
-use lib.ListN.{length, get_or, drop}
+use lib.ListN.{length, get_or, take, drop}
+use lib.Seq.{get_or-take, get_or-drop}
 use borrow.Author.Tests.{lt-ltb, le-ltb, eq-eqb, ne_eqb}
-use Rattle.leb128.specs.Got.{got, bad}
+use Rattle.leb128.specs.Got.{Got, got, bad}
 use Rattle.leb128.specs.Digits.{whole, digits}
-use Rattle.leb128.specs.Read.{u_large, u64_at, end_of}
+use Rattle.leb128.specs.Read.{u_large, u64_at, end_of, nonzero, nonzero_at}
+use Rattle.leb128.specs.Write.{u64_bytes}
+use Rattle.leb128.proofs.Encoded.{encoded-last}
+use Rattle.leb128.proofs.Laws.{u64-next, u64-only}
 use Rattle.leb128.proofs.Scanning.{onto}
 use Rattle.leb128.proofs.Scanning as scan
 
@@ -105,3 +109,24 @@ pub record Passing (s : List ℕ) (at n i : ℕ) : Type 0 where
   pub low : ℕ
   pub scale : ℕ
   pub scanned : Scanned s at low scale n i
+
+-- ---- a number of more than one byte is not 0, whose encoding has one
+
+keeps : (at : ℕ) (g : Got ℕ) → ((v next : ℕ) → g ≡ got v next → v ≡ 0 → ⊥) → g ≡ nonzero at g
+keeps at (got v next) h = rw (ne_eqb v 0 (h v next refl))
+keeps at (bad r place) h = refl
+
+module _ (s : List ℕ) (B : (i : ℕ) → get_or s i 0 < 256) (at : ℕ) (b : 128 ≤ get_or s at 0) where
+  long-some : (v next : ℕ) → u64_at s at ≡ got v next → v ≡ 0 → ⊥
+  long-some v next e z =
+      let l : at < next = (u64-next s at v next e).0 in
+      let k : 0 < next - at = omega arith in
+      let w : u64_bytes v ≡ 0 ∷ [] = rw z (encoded-last 128 false 0 (omega arith)) in
+      let f : get_or (take (next - at) (drop at s)) 0 0 ≡ 0 = ap (λ (l : List ℕ). get_or l 0 0) ((u64-only s B at v next e).0 ∙ w) in
+      let g : get_or (take (next - at) (drop at s)) 0 0 ≡ get_or s (at + 0) 0 = rw (get_or-take, get_or-drop) in
+      let o : at + 0 ≡ at = omega arith in
+      omega (arith, rw o at g)
+
+  pub long-nonzero : u64_at s at ≡ nonzero_at s at
+  unfolding nonzero_at
+  long-nonzero = keeps at (u64_at s at) long-some

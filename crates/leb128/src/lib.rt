@@ -294,13 +294,19 @@ pub fn leb128_u32(s: &[u8], at: usize) -> Parsed<u32>
     Err(Refusal(Why::TooLarge, at))
 }
 
-// The u64 at a position, which must not be 0, or its refusal.
+// The u64 at a position, which must not be 0, or its refusal. One of more than one byte never is.
 pub fn nonzero_leb128_u64(s: &[u8], at: usize) -> Parsed<u64>
     ensures { parsed_of result ≡ nonzero_at s.now at }
 {
-    let (v, next) = leb128_u64(s, at)?;
-    if v == 0 {
-        return Err(Refusal(Why::Zero, at));
+    if at < s.len() {
+        let b = s[at];
+        if b == 0 {
+            return Err(Refusal(Why::Zero, at));
+        }
+        if b < 128 {
+            return Ok((wide(b), at + 1));
+        }
+        return long_u64(s, at, b);
     }
-    Ok((v, next))
+    Err(Refusal(Why::NothingDue, s.len())) // nor one that is not 0
 }

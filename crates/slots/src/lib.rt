@@ -3,6 +3,7 @@
 
 ghost use Rattle.std.specs.Prelude.{◌≡◌, ◌+◌, ◌-◌, ◌≤◌, pos, length, take};
 ghost use Rattle.std.specs.List.{copy_within};
+ghost use Rattle.std.proofs.Math.Seq.{paste};
 ghost use Rattle.std.proofs.Common.{rules};
 ghost use Rattle.encoding.specs.Cases.{answer_of};
 ghost use Rattle.slots.specs.Splice.{spliced, in_slots, spliced_slots, splice_answer};
@@ -53,6 +54,16 @@ fn move_to<T: Copy>(s: &mut [T], from: usize, end: usize, to: usize)
     }
 }
 
+// The new elements, to `at` on. A loop: of `copy_from_slice` the compiler makes a call of memmove, and hosts lend memcpy and memset alone.
+fn put<T: Copy>(s: &mut [T], at: usize, new: &[T])
+    requires { at + length new.now ≤ length s.old }
+    ensures { s.new ≡ paste s.old at new.now (length new.now) }
+{
+    for i in 0..new.len() {
+        s[at + i] = new[i];
+    }
+}
+
 // The splice where there is room for it.
 fn place<T: Blank>(s: &mut [T], old: usize, start: usize, end: usize, new: &[T]) -> usize
     requires { (start ≤ end) × (end ≤ old) × (old ≤ length s.old) × (start + length new.now + (old - end) ≤ length s.old) }
@@ -62,7 +73,7 @@ fn place<T: Blank>(s: &mut [T], old: usize, start: usize, end: usize, new: &[T])
     let to = start + new.len();
     let len = to + (old - end);
     move_to(s, end, old, to);
-    s[start..to].copy_from_slice(new);
+    put(s, start, new);
     if len < old {
         s[len..old].fill(T::BLANK);
     }

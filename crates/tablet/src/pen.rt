@@ -27,7 +27,7 @@ impl Write for Sheet<'_> {
 }
 
 // The error is the system's number of what last kept a text from coming through, where something did; 0 where it has no number.
-#[derive(Drop)]
+#[derive(Clone, Copy)]
 pub struct Pen<'a> {
     sheet: Sheet<'a>,
     pub error: Option<i32>,

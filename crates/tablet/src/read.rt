@@ -116,15 +116,12 @@ fn read_range(path: &[u8], c: Column<'_>, r: Range, desk: Desk) -> Result<(), Sa
     read_between(path, c.part, kind, r, e, desk)
 }
 
-pub fn run(rt: &impl Files<File = File>, line: &[u8], desk: Desk) -> Result<(), Said> {
-    let n = words::count(line);
-    if n != 3 && n != 5 {
-        return help::wrong("read FILE COLUMN [START END]", desk);
-    }
+// The words are as many as they may be. The room is the first thing: one that stands behind a test is cleared twice.
+fn read_column(rt: &impl Files<File = File>, line: &[u8], desk: Desk) -> Result<(), Said> {
     let mut room = rooms::block();
     let (_, c) = column::open(rt, line, &mut room, desk)?;
     // All of it, where no range is named.
-    let r = if n == 5 {
+    let r = if words::count(line) == 5 {
         range::of_line(line, c.position, desk)?
     } else {
         Range {
@@ -134,4 +131,11 @@ pub fn run(rt: &impl Files<File = File>, line: &[u8], desk: Desk) -> Result<(), 
         }
     };
     read_range(words::word(line, 1), c, r, desk)
+}
+
+pub fn run(rt: &impl Files<File = File>, line: &[u8], desk: Desk) -> Result<(), Said> {
+    match words::count(line) {
+        3 | 5 => read_column(rt, line, desk),
+        _ => help::wrong("read FILE COLUMN [START END]", desk),
+    }
 }

@@ -81,11 +81,15 @@ fn show_block(path: &[u8], block: &[u8], desk: Desk) -> Result<(), Said> {
     }
 }
 
+// Its room is the first thing in it: one that stands behind a test is cleared twice.
+fn show_file(rt: &impl Files<File = File>, path: &[u8], desk: Desk) -> Result<(), Said> {
+    let mut room = rooms::block();
+    show_block(path, files::read(rt, path, &mut room, desk)?, desk)
+}
+
 pub fn run(rt: &impl Files<File = File>, line: &[u8], desk: Desk) -> Result<(), Said> {
     if words::count(line) != 2 {
         return help::wrong("show FILE", desk);
     }
-    let path = words::word(line, 1);
-    let mut room = rooms::block();
-    show_block(path, files::read(rt, path, &mut room, desk)?, desk)
+    show_file(rt, words::word(line, 1), desk)
 }

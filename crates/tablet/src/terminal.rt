@@ -26,20 +26,19 @@ fn cell(places: usize) -> usize {
     }
 }
 
-// A sign, so many times.
-fn signs(pen: &mut Pen<'_>, sign: &str, n: usize) {
-    for _ in 0..n {
-        write!(pen, "{sign}");
-    }
+// The first n of four equal signs, in one call: each call of a pen is one of the system's.
+fn signs(pen: &mut Pen<'_>, four: &str, n: usize) {
+    let size = (four.len() / 4).saturating_mul(n);
+    pen.bytes(four.as_bytes().get(..size).unwrap_or_default());
 }
 
-// The sign of a shade. A yes or no has no clay.
-fn sign_of(kind: Kind, shade: usize) -> &'static str {
+// The sign of a shade, four times. A yes or no has no clay.
+fn four_of(kind: Kind, shade: usize) -> &'static str {
     match shade {
-        1 => "█",
-        2 => "▒",
-        3 if kind != Kind::YesNo => "░",
-        _ => " ",
+        1 => "████",
+        2 => "▒▒▒▒",
+        3 if kind != Kind::YesNo => "░░░░",
+        _ => "    ",
     }
 }
 
@@ -71,7 +70,7 @@ impl Drawing<'_> {
         write!(pen, "{depth:>width$} |");
         for s in self.stretches.iter().take(self.scale.places) {
             let shade = picture::shade_at(self.scale, row, *s);
-            signs(pen, sign_of(self.kind, shade), self.cell());
+            signs(pen, four_of(self.kind, shade), self.cell());
         }
         writeln!(pen, "{}", end_of(self.broken, row));
     }
@@ -80,7 +79,7 @@ impl Drawing<'_> {
     fn say_ruler(self, pen: &mut Pen<'_>, width: usize) {
         write!(pen, "{:width$} +", "");
         for s in self.stretches.iter().take(self.scale.places) {
-            signs(pen, if s.here == 0 { " " } else { "─" }, self.cell());
+            signs(pen, if s.here == 0 { "    " } else { "────" }, self.cell());
         }
         writeln!(pen, "{}", if self.broken { "╳" } else { "" });
     }

@@ -107,7 +107,20 @@ fn ask_one(c: Column<'_>, desk: Desk) -> Result<(), Said> {
     out.finish(desk)
 }
 
-fn ask_position(path: &[u8], block: &[u8], position: usize, desk: Desk) -> Result<(), Said> {
+// In this and the next the room is the first thing: one that stands behind a test is cleared twice.
+fn ask_file(rt: &impl Files<File = File>, path: &[u8], desk: Desk) -> Result<(), Said> {
+    let mut room = rooms::block();
+    ask_block(files::read(rt, path, &mut room, desk)?, desk)
+}
+
+fn ask_position(
+    rt: &impl Files<File = File>,
+    path: &[u8],
+    position: usize,
+    desk: Desk,
+) -> Result<(), Said> {
+    let mut room = rooms::block();
+    let block = files::read(rt, path, &mut room, desk)?;
     match column::locate(block, position) {
         Ok(c) => ask_one(c, desk),
         Err(refusal) if refusal.why == Why::NoSuchColumn => {
@@ -119,12 +132,11 @@ fn ask_position(path: &[u8], block: &[u8], position: usize, desk: Desk) -> Resul
 
 pub fn run(rt: &impl Files<File = File>, line: &[u8], desk: Desk) -> Result<(), Said> {
     let path = words::word(line, 1);
-    let mut room = rooms::block();
     match words::count(line) {
-        2 => ask_block(files::read(rt, path, &mut room, desk)?, desk),
+        2 => ask_file(rt, path, desk),
         3 => {
-            let (position, block) = column::named(rt, line, &mut room, desk)?;
-            ask_position(path, block, position, desk)
+            let position = column::place(words::word(line, 2), "a column's position", desk)?;
+            ask_position(rt, path, position, desk)
         }
         _ => help::wrong("why FILE [COLUMN]", desk),
     }

@@ -1,9 +1,9 @@
 -- `slots::place` meets its contract: the move and the put make the new list, and what the old one leaves is cleared. Assumes nothing.
 use mathlib.Core.Path.{◌≡◌, refl, sym, ap, ◌∙◌}
 use mathlib.Core.List.{List}
-use Prim.Native.Nat.{ℕ, ◌+◌, ◌-◌, ◌≤◌}
+use Prim.Native.Nat.{ℕ, ◌-◌, ◌≤◌}
 use native.Mathlib.Omega.{arith}
-use borrow.Rule.Slice.PartMut.{put_mid, mid_of, mid_len, same_len_mid}
+use borrow.Rule.Slice.PartMut.{put_mid, mid_of, mid_len}
 use lib.ListN.{length, replicate, length-replicate}
 use lib.Seq.{paste}
 use Rattle.std.proofs.lemmas.Slice.{put_mid-paste}
@@ -19,13 +19,9 @@ filled z d at end e h =
 pub returns-then-len-old : goal.returns-then-len-old
 returns-then-len-old g c =
     let a = c.args in
-    let long = same_len_mid a.start (a.start + length a.new.now - a.start) _ _ c.copy_from_slice.ensures.len in
     let blank = (rw c.BLANK.ensures at c.fill.ensures.after) g.met.T.Blank.clones.1 in
-    let cleared = filled _ _ _ a.old blank (omega (arith, long, c.move_to.auto, c.requires)) in
-    let put = put_mid-paste _ _ _ _ _ _ c.copy_from_slice.ensures.after (omega arith) refl in
-    (refl, placed-cleared _ _ _ _ _ _ c.requires c.move_to.ensures put c.if-len-old.true cleared)
+    let cleared = filled _ _ _ a.old blank (omega (arith, c.put.auto, c.move_to.auto, c.requires)) in
+    (refl, placed-cleared _ _ _ _ _ _ c.requires c.move_to.ensures c.put.ensures c.if-len-old.true cleared)
 
 pub returns-else-len-old : goal.returns-else-len-old
-returns-else-len-old g c =
-    let put = put_mid-paste _ _ _ _ _ _ c.copy_from_slice.ensures.after (omega arith) refl in
-    (refl, placed _ _ _ _ _ _ c.requires c.move_to.ensures put c.if-len-old.false)
+returns-else-len-old g c = (refl, placed _ _ _ _ _ _ c.requires c.move_to.ensures c.put.ensures c.if-len-old.false)
