@@ -1,6 +1,5 @@
 // The library's answers in the boundary's form. Each struct of C's has an `impl` of its own: C takes no generic struct.
 ghost use Rattle.std.specs.Prelude.{◌≡◌};
-ghost use Rattle.leb128.specs.Answer.{done, refused};
 ghost use Rattle.leb128.specs.Cases.{parsed_of};
 ghost use Rattle.leb128_writer.specs.Cases.{written_of};
 ghost use Rattle.column_specification.specs.Cases.{packing_of};
@@ -107,33 +106,18 @@ impl From<Parsed<u32>> for NumberU32 {
     }
 }
 
-fn accepted(n: u64) -> Counted
-    ensures { result ≡ counted (done n) }
-{
-    Counted {
-        number: 0,
-        place: 0,
-        count: n,
-    }
-}
-
-fn refused(n: u8, place: usize) -> Counted
-    ensures { result ≡ counted (refused n place) }
-{
-    Counted {
-        number: n,
-        place,
-        count: 0,
-    }
-}
-
 impl From<Answer> for Counted {
     ghost from_gives = { λ a c. c ≡ counted (answer_of a) };
 
     fn from(a: Answer) -> Counted {
-        match a {
-            Ok(n) => accepted(n),
-            Err(Refusal(why, place)) => refused(u8::from(why), place),
+        let (number, place, count) = match a {
+            Ok(n) => (0, 0, n),
+            Err(Refusal(why, place)) => (u8::from(why), place, 0),
+        };
+        Counted {
+            number,
+            place,
+            count,
         }
     }
 }
@@ -142,9 +126,14 @@ impl From<Written> for Counted {
     ghost from_gives = { λ w c. c ≡ counted (written_of w) };
 
     fn from(w: Written) -> Counted {
-        match w {
-            Ok(next) => accepted(next as u64),
-            Err(Refusal(why, at)) => refused(u8::from(why), at),
+        let (number, place, count) = match w {
+            Ok(next) => (0, 0, next as u64),
+            Err(Refusal(why, at)) => (u8::from(why), at, 0),
+        };
+        Counted {
+            number,
+            place,
+            count,
         }
     }
 }
@@ -425,35 +414,19 @@ fn refused_in(block: u8, why: Why, place: usize) -> Layered
     }
 }
 
-fn lies_at(start: usize, len: usize) -> Part
-    ensures { result ≡ record { number = 0; place = 0; start = start; len = len } }
-{
-    Part {
-        number: 0,
-        place: 0,
-        start,
-        len,
-    }
-}
-
-fn no_part(why: Why, place: usize) -> Part
-    ensures { result ≡ part_as (no_part (refusals.number_of why) place) }
-{
-    Part {
-        number: u8::from(why),
-        place,
-        start: 0,
-        len: 0,
-    }
-}
-
 impl From<Result<column_part::Part, Refusal>> for Part {
     ghost from_gives = { λ p c. c ≡ part_as (part_of p) };
 
     fn from(p: Result<column_part::Part, Refusal>) -> Part {
-        match p {
-            Ok(part) => lies_at(part.start, part.len),
-            Err(Refusal(why, place)) => no_part(why, place),
+        let (number, place, start, len) = match p {
+            Ok(part) => (0, 0, part.start, part.len),
+            Err(Refusal(why, place)) => (u8::from(why), place, 0, 0),
+        };
+        Part {
+            number,
+            place,
+            start,
+            len,
         }
     }
 }
@@ -463,10 +436,16 @@ impl From<Result<Option<column_part::Part>, Refusal>> for Part {
     ghost from_gives = { λ p c. c ≡ part_as (found_of p) };
 
     fn from(p: Result<Option<column_part::Part>, Refusal>) -> Part {
-        match p {
-            Ok(Some(part)) => lies_at(part.start, part.len),
-            Ok(None) => lies_at(0, 0),
-            Err(Refusal(why, place)) => no_part(why, place),
+        let (number, place, start, len) = match p {
+            Ok(Some(part)) => (0, 0, part.start, part.len),
+            Ok(None) => (0, 0, 0, 0),
+            Err(Refusal(why, place)) => (u8::from(why), place, 0, 0),
+        };
+        Part {
+            number,
+            place,
+            start,
+            len,
         }
     }
 }

@@ -34,6 +34,7 @@ use refusal::{Refusal, Why};
 type Step = Result<(usize, u64, u64), Refusal>;
 
 // How the run at `at` begins, by the fixed table.
+#[inline(always)]
 fn head_of(table: &[i8; 256], s: &[u8], at: usize, had: u64) -> Result<Head, Refusal>
     requires { table.now ≡ short }
     ensures { head_of result ≡ head_at s.now at had }

@@ -33,7 +33,10 @@ fn number_of(x: i8) -> i64
     x as i64
 }
 
-// A number of more than one byte, of which the first is at hand. What stands behind nine bytes ends it.
+// A number of more than one byte, of which the first is at hand. What stands behind nine bytes ends it. By the hints it stands apart from its callers'
+// loops, through which a number of one byte falls without a jump.
+#[cold]
+#[inline(never)]
 fn long_u64(s: &[u8], at: usize, first: u8) -> Parsed<u64>
     requires { (at < length s.now) × (first ≡ get_or s.now at 0) × (128 ≤ first) }
     ensures { parsed_of result ≡ u64_at s.now at }
@@ -65,6 +68,7 @@ fn long_u64(s: &[u8], at: usize, first: u8) -> Parsed<u64>
 }
 
 // The u64 at a position, or its refusal.
+#[inline(always)]
 pub fn leb128_u64(s: &[u8], at: usize) -> Parsed<u64>
     ensures { parsed_of result ≡ u64_at s.now at }
 {
@@ -189,6 +193,7 @@ pub fn short_numbers() -> [i8; 256]
 
 // A number of more than one byte, of which the first is at hand. Where bit 6 of the final byte is set, the sign is extended through all the bits
 // above it: the result is the complement of the complemented digits, exact at -1 and at -64.
+#[inline(never)]
 fn long_i64(s: &[u8], at: usize, first: u8) -> Parsed<i64>
     requires { (at < length s.now) × (first ≡ get_or s.now at 0) × (128 ≤ first) }
     ensures { parsed_of result ≡ i64_at s.now at }
@@ -284,6 +289,7 @@ pub fn leb128_i64(s: &[u8], at: usize) -> Parsed<i64>
 }
 
 // The u32 at a position, read as a u64 first, or its refusal.
+#[inline(always)]
 pub fn leb128_u32(s: &[u8], at: usize) -> Parsed<u32>
     ensures { parsed_of result ≡ u32_at s.now at }
 {

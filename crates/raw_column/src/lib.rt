@@ -56,6 +56,7 @@ fn count_of(block: &[u8]) -> Parsed<usize>
 }
 
 // The row at a position of a table.
+#[inline(always)]
 pub fn row_at(block: &[u8], p: usize) -> Result<Row, Refusal>
     ensures { Read block.now p result }
 {

@@ -90,6 +90,8 @@ pub fn head_by_bytes(s: &[u8], at: usize, had: u64) -> Result<Head, Refusal>
 }
 
 // The same by a table that is lent: a count of any length.
+#[cold]
+#[inline(never)]
 fn head_far(table: &[i8; 256], s: &[u8], at: usize, had: u64) -> Result<Head, Refusal>
     ensures { head_of result ≡ head_by table.now s.now at had }
 {
@@ -121,12 +123,14 @@ fn number_of(x: i8) -> i64
     x as i64
 }
 
-// For whoever reads many: counts of one byte in place.
+// For whoever reads many: counts of one byte in place. What a call answers is made anew: handed on as it is, it would be written where the caller looks for
+// the head, which would then be asked for in memory, run by run.
+#[inline(always)]
 pub fn head_by(table: &[i8; 256], s: &[u8], at: usize, had: u64) -> Result<Head, Refusal>
     ensures { head_of result ≡ head_by table.now s.now at had }
 {
     if NEAR < had {
-        return head_far(table, s, at, had);
+        return Ok(head_far(table, s, at, had)?);
     }
     if at < s.len() {
         let b = place_of(s[at]);
@@ -147,5 +151,5 @@ pub fn head_by(table: &[i8; 256], s: &[u8], at: usize, had: u64) -> Result<Head,
             return Ok(Head::Repeat(count_of(x), q));
         }
     }
-    head_far(table, s, at, had)
+    Ok(head_far(table, s, at, had)?)
 }
