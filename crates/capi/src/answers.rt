@@ -126,15 +126,7 @@ impl From<Written> for Counted {
     ghost from_gives = { λ w c. c ≡ counted (written_of w) };
 
     fn from(w: Written) -> Counted {
-        let (number, place, count) = match w {
-            Ok(next) => (0, 0, next as u64),
-            Err(Refusal(why, at)) => (u8::from(why), at, 0),
-        };
-        Counted {
-            number,
-            place,
-            count,
-        }
+        Counted::from(w.map(|next| next as u64))
     }
 }
 
@@ -418,16 +410,7 @@ impl From<Result<column_part::Part, Refusal>> for Part {
     ghost from_gives = { λ p c. c ≡ part_as (part_of p) };
 
     fn from(p: Result<column_part::Part, Refusal>) -> Part {
-        let (number, place, start, len) = match p {
-            Ok(part) => (0, 0, part.start, part.len),
-            Err(Refusal(why, place)) => (u8::from(why), place, 0, 0),
-        };
-        Part {
-            number,
-            place,
-            start,
-            len,
-        }
+        Part::from(p.map(Some))
     }
 }
 
